@@ -1,0 +1,12 @@
+pub mod Dues
+pub mod Stacked
+pub mod Entered
+pub mod Runs
+pub mod SoundFacts
+pub mod Single
+pub mod Several
+pub mod Blocked
+pub mod Rises
+pub mod Beyond
+pub mod Same
+pub mod Settled

@@ -1,0 +1,9 @@
+pub mod Answer
+pub mod Demand
+pub mod Due
+pub mod Facts
+pub mod Laws
+pub mod Sound
+pub mod Stack
+pub mod Until
+pub mod Verdict

@@ -1,0 +1,16 @@
+pub mod Bounds
+pub mod Counted
+pub mod Depth
+pub mod Filled
+pub mod Kept
+pub mod Least
+pub mod Lined
+pub mod Listed
+pub mod Mapped
+pub mod Nested
+pub mod Rooms
+pub mod Split
+pub mod Turns
+pub mod Values
+pub mod Writes
+pub mod Written

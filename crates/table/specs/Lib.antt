@@ -1,0 +1,14 @@
+pub mod Answer
+pub mod Byte
+pub mod Form
+pub mod Head
+pub mod Item
+pub mod Judged
+pub mod Level
+pub mod Limits
+pub mod Lines
+pub mod Name
+pub mod Nest
+pub mod Number
+pub mod Record
+pub mod Rule
