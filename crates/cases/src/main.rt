@@ -125,17 +125,14 @@ fn judge<'t>(
     Ok(())
 }
 
-/// One case: so many records are lent for a text.
-fn try_text(
+/// Reads a text into the records that are lent, and prints the answers.
+fn try_records(
     rt: &LibcRuntime,
-    lent_tasks: usize,
-    lent_sections: usize,
     text: &[u8],
+    tasks: &mut [TaskRecord],
+    sections: &mut [SectionRecord],
 ) -> Result<(), AnyError> {
-    let mut tasks = [NO_TASK; 40];
-    let mut sections = [NO_SECTION; 70];
-    let (k, m) = (lent_tasks.min(40), lent_sections.min(70));
-    match read(text, &mut tasks[0..k], &mut sections[0..m]) {
+    match read(text, tasks, sections) {
         Ok(counts) => {
             let (k, m) = (counts.tasks, counts.sections);
             print!(rt, "read {k} {m}")?;
@@ -146,6 +143,19 @@ fn try_text(
             Ok(())
         }
     }
+}
+
+/// One case: so many records are lent for a text.
+fn try_text(rt: &LibcRuntime, tasks: usize, sections: usize, text: &[u8]) -> Result<(), AnyError> {
+    let mut task_records = [NO_TASK; 40];
+    let mut section_records = [NO_SECTION; 70];
+    let (k, m) = (tasks.min(40), sections.min(70));
+    try_records(
+        rt,
+        text,
+        &mut task_records[0..k],
+        &mut section_records[0..m],
+    )
 }
 
 fn try_line(rt: &LibcRuntime, line: &str) -> Result<(), AnyError> {
