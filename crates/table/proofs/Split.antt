@@ -29,7 +29,7 @@ first-line b t longer =
     ∙ sym (ap (λ n. take n (b ∷ t) ∷ linesOf (drop n (b ∷ t))) (cond-false (eqb b 10) 1 (1 + lineLength t) e ∙ one-add (lineLength t))))
     (cases-bool (eqb b 10))
 
-at-front : (t : List ℕ) → 0 < length t → linesOf t ≡ take (lineLength t) t ∷ linesOf (drop (lineLength t) t)
+pub at-front : (t : List ℕ) → 0 < length t → linesOf t ≡ take (lineLength t) t ∷ linesOf (drop (lineLength t) t)
 at-front [] h = absurd (omega arith)
 at-front (b ∷ []) h = first-line b [] refl
 at-front (b ∷ (x ∷ t)) h = first-line b (x ∷ t) (ap (startLine b) (at-front (x ∷ t) (omega arith)))

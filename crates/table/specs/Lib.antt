@@ -1,12 +1,17 @@
 pub mod Answer
+pub mod Breach
+pub mod Broken
 pub mod Byte
 pub mod Form
+pub mod Grammar
 pub mod Head
 pub mod Item
 pub mod Judged
 pub mod Level
 pub mod Limits
 pub mod Lines
+pub mod Meaning
+pub mod Meant
 pub mod Name
 pub mod Nest
 pub mod Number
