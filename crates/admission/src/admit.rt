@@ -32,6 +32,16 @@ fn judge_sound(tasks: &[TaskRecord], sections: &[SectionRecord]) -> Result<u32, 
     }
 }
 
+/// Judges any records: their idle instant, or why they are not admitted.
+fn judge_records(tasks: &[TaskRecord], sections: &[SectionRecord]) -> Result<u32, Refusal>
+    ensures { λ r. ⌜ Verdict (now (tasks .entry)) (now (sections .entry)) r ⌝ }
+{
+    if !sound_records(tasks, sections) {
+        return Err(Refusal::Records);
+    }
+    judge_sound(tasks, sections)
+}
+
 /// Admits records that break no rule and fit at every instant up to their idle instant, and hands out the pass that says so.
 ///
 /// Any other records are refused: by the rules, by the least instant at which they do not fit, or because the horizon comes before
@@ -44,13 +54,12 @@ pub fn admit<'a>(
     ensures verdict { λ r. ⌜ Cases r (λ p. Admitted (now (tasks .entry)) (now (sections .entry)) (p .idle)) (λ e. Refused (now (tasks .entry)) (now (sections .entry)) e) ⌝ }
     ensures records { λ r. ⌜ made r (λ p. (now (p .tasks) ≡ now (tasks .entry)) × (now (p .sections) ≡ now (sections .entry))) ⌝ }
 {
-    if !sound_records(tasks, sections) {
-        return Err(Refusal::Records);
+    match judge_records(tasks, sections) {
+        Ok(idle) => Ok(Pass {
+            tasks,
+            sections,
+            idle,
+        }),
+        Err(refusal) => Err(refusal),
     }
-    let idle = judge_sound(tasks, sections)?;
-    Ok(Pass {
-        tasks,
-        sections,
-        idle,
-    })
 }

@@ -4,9 +4,10 @@ ghost use Prim.Native.Nat.{_≤_};
 ghost use lib.ListN.{length};
 ghost use Rattle.std.specs.shelf.Lists.{All};
 ghost use Rattle.table.specs.Limits.{mostTasks};
-ghost use Rattle.admission.specs.Demand.{demandOf, demand, blocks, blocking};
+ghost use Rattle.admission.specs.Demand.{demandOf, demand, reaches, later, blocks, blocking};
 ghost use Rattle.admission.specs.Facts.{Timed};
 ghost use Rattle.admission.specs.Verdict.{horizon};
+use table::levels::deadline_of;
 use table::records::SectionRecord;
 use table::records::TaskRecord;
 
@@ -19,17 +20,31 @@ fn task_demand(task: &TaskRecord, t: u32) -> u32
     task.cost * ((t + task.period - task.deadline) / task.period)
 }
 
+/// Whether a level is at most `t`; no level is above every number.
+fn is_reached(level: Option<u32>, t: u32) -> bool
+    ensures { λ r. ⌜ r ≡ reaches level t ⌝ }
+{
+    match level {
+        Some(level) => level <= t,
+        None => false,
+    }
+}
+
+/// Whether a relative deadline is past `t`.
+fn is_later(deadline: Option<u32>, t: u32) -> bool
+    ensures { λ r. ⌜ r ≡ later deadline t ⌝ }
+{
+    match deadline {
+        Some(deadline) => t < deadline,
+        None => false,
+    }
+}
+
 /// Whether a section can hold up jobs that are due by `t`: its level is at most `t`, and its own task's D is past `t`.
 fn can_block(tasks: &[TaskRecord], section: &SectionRecord, t: u32) -> bool
     ensures { λ r. ⌜ r ≡ blocks (now (tasks .entry)) (now (section .entry)) t ⌝ }
 {
-    let Some(level) = section.level else {
-        return false;
-    };
-    let Some(task) = tasks.get(section.task) else {
-        return false;
-    };
-    level <= t && t < task.deadline
+    is_reached(section.level, t) && is_later(deadline_of(tasks, section.task), t)
 }
 
 /// What the jobs of all tasks that are due by `t` ask for.

@@ -9,5 +9,3 @@ pub mod laws;
 pub mod pass;
 mod path;
 pub mod refusal;
-#[cfg(test)]
-mod tests;

@@ -14,6 +14,9 @@ use table::records::Span;
 use table::records::TaskRecord;
 use table::refusal::RefusalDisplay;
 
+#[cfg(test)]
+mod tests;
+
 const NO_SPAN: Span = Span { first: 0, count: 0 };
 
 const NO_TASK: TaskRecord = TaskRecord {

@@ -9,6 +9,7 @@ use lib.Dec.{ltb, eqb}
 use lib.ListN.{length, take, drop}
 use Rattle.std.proofs.shelf.Lists.{length-append, length-map, take-at, drop-at}
 use Rattle.std.specs.Results.{isOk}
+use Rattle.std.specs.Vec.{made}
 use Rattle.std.specs.declared.option.Option.{Option}
 use Rattle.std.specs.declared.result.Result.{Result}
 use Rattle.std.specs.declared.result.Result.the-variants.{Ok, Err}
@@ -81,3 +82,10 @@ judged-ok text tasks sections counts e = past (eqb (length text) 0) _ _ (past (l
     past : (b : Bool) (refusal : Refusal) (r : Result Counts Refusal) → cond b (Err refusal) r ≡ Ok counts → r ≡ Ok counts
     past true refusal r h = let z : _≡_ {A = ℕ} 0 1 = cc in absurd (omega arith)
     past false refusal r h = h
+
+-- its counts lie within the slices
+pub judged-within : (text : List ℕ) (tasks sections : ℕ) (r : Result Counts Refusal) → r ≡ judged text tasks sections → made r (λ c. (c .tasks ≤ tasks) × (c .sections ≤ sections))
+judged-within text tasks sections (Ok counts) e =
+    let p = counted (roomFor tasks sections) nothingRead counts 0 (linesOf text) (judged-ok text tasks sections counts (sym e)) in
+    (omega (arith, p .tasks-within), omega (arith, p .sections-within))
+judged-within text tasks sections (Err refusal) e = tt

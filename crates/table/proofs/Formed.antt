@@ -152,9 +152,31 @@ right s i [] l = (zero, omega arith, omega arith, some s l, (λ u lt. absurd (om
 right s i (b ∷ t) l = turn s i b t (stepped s b) l (back s b l) (fore s b) (λ s′ l′. right s′ (i + 1) t l′)
 
 line-rest : (l : Line) → Rest (Name 0) (render l)
-line-rest l =
-    (l .name, _, omega (arith, l .named), omega (arith, l .short), refl, (_, refl, (_, refl, (_, refl, (l .deadline, _, refl,
-    (_, refl, (_, refl, (_, refl, (l .period, _, refl, (_, refl, (_, refl, (_, refl, (l .cost, _, refl, (l .sections, tt, refl))))))))))))))
+line-rest l = (
+  l .name,
+  _,
+  omega (arith, l .named),
+  omega (arith, l .short),
+  refl,
+  (
+    _,
+    refl,
+    (
+      _,
+      refl,
+      (
+        _,
+        refl,
+        (
+          l .deadline,
+          _,
+          refl,
+          (_, refl, (_, refl, (_, refl, (l .period, _, refl, (_, refl, (_, refl, (_, refl, (l .cost, _, refl, (l .sections, tt, refl))))))))),
+        ),
+      ),
+    ),
+  ),
+)
 
 rest-line : (t : List ℕ) → Rest (Name 0) t → (l : Line) × (render l ≡ t)
 rest-line t (ls, u, low, high, e, (u1, e1, (u2, e2, (u3, e3, (n, u4, e4, (u5, e5, (u6, e6, (u7, e7, (m, u8, e8, (u9, e9, (v1, f1, (v2, f2, (k, v3, f3, (g, st, f4)))))))))))))) =

@@ -27,7 +27,7 @@ use Rattle.table.specs.Lines.{linesOf, lineLength}
 use Rattle.table.specs.Head.{lineItems}
 use Rattle.table.specs.Rule.{opens}
 use Rattle.table.specs.Grammar.{Numeral, Sections, none, section, Line, render, renderAll}
-use Rattle.table.specs.Breach.{Own, own, Spot, spots, Any, Fair, Unfair, Breaks, Good, AllGood, past, pastAll, count, deadlinePlace, periodPlace, costPlace, sectionsPlace, lineSpots}
+use Rattle.table.specs.Breach.{Breaks, Good, AllGood, past, pastAll, count}
 use Rattle.table.specs.Broken.{BrokenAt}
 use Rattle.table.specs.Meant.{taskMeant, tasksMeant, sectionsMeant, allSectionsMeant}
 use Rattle.table.specs.Judged.{unless, lineJudged, linesJudged, judged, roomFor, nothingRead}
@@ -36,33 +36,11 @@ use Rattle.table.specs.Meaning.{First, Bad, Fault, Table, Refused, Meaning, Ex
 use Rattle.table.proofs.Turns.{go-on}
 use Rattle.table.proofs.Formed.{Formed, formed}
 use Rattle.table.proofs.Rendered.{one-line, first-formed}
-use Rattle.table.proofs.Parsed.{cases-fair}
 use Rattle.table.proofs.Split.{at-front}
-use Rattle.table.proofs.Recorded.{Fairs, FairLine, opens-line, sections-line, task-line}
-
--- a number that is nowhere found unfair is fair
-fair-if : (place : ℕ) (n : Numeral) → ((p : ℕ) → Unfair place n p → ⊥) → Fair n
-fair-if place n h = ⊎-elim (λ k. k .0) (λ k. absurd (h place (refl, k .0))) (cases-fair n)
-
--- none of these spots has an unfair number
-abbrev Clean : ℕ → List Spot → Type 0
-Clean k ss = (p : ℕ) → Any (λ i s. Unfair (s .place) (s .own .number) p) k ss → ⊥
-
-fairs-if : (around : List Own) (p : ℕ) (f : Sections) (rest : List Spot) (k : ℕ) → Clean k (spots around p f rest) → Fairs f × ((j : ℕ) × Clean j rest)
-fairs-if around p none rest k h = (tt, (k, h))
-fairs-if around p (section n ls f g) rest k h =
-    let fair = fair-if (p + 1) n (λ q a. h q (inl a)) in
-    let inner = fairs-if (own n ls ∷ around) _ f _ (k + 1) (λ q a. h q (inr a)) in
-    let after = fairs-if around _ g rest (inner .1 .0) (inner .1 .1) in
-    ((fair, (inner .0, after .0)), after .1)
-
-pub fair-line : (room before : Counts) (l : Line) → Good room before l → FairLine l
-fair-line room before l good = record {
-  deadline = fair-if (deadlinePlace l) (l .deadline) (λ p a. good Number p (inl a));
-  period = fair-if (periodPlace l) (l .period) (λ p a. good Number p (inr (inl a)));
-  cost = fair-if (costPlace l) (l .cost) (λ p a. good Number p (inr (inr (inl a))));
-  sections = fairs-if [] (sectionsPlace l) (l .sections) [] 0 (λ p a. good Number p (inr (inr (inr a)))) .0;
-}
+use Rattle.table.proofs.Sectioned.{opens-line}
+use Rattle.table.proofs.Timed.{all-fair}
+use Rattle.table.proofs.LineMeaning.{Told, line-told}
+use Rattle.table.proofs.Recorded.{sections-line, task-line}
 
 -- the lines of written lines
 lines-written : (ls : List Line) → linesOf (renderAll ls) ≡ map render ls
@@ -72,21 +50,16 @@ lines-written (l ∷ ls) = one-line l (renderAll ls) ∙ ap (λ x. render l ∷ 
 tasks-written : (room before : Counts) (place k : ℕ) (ls : List Line) → AllGood room before ls → tasksOf place k (map render ls) ≡ tasksMeant place k ls
 tasks-written room before place k [] h = refl
 tasks-written room before place k (l ∷ ls) (good, more) =
-    ap (λ x. x ∷ tasksOf (place + length (render l)) (k + opens (lineItems (render l))) (map render ls)) (task-line place k l (fair-line room before l good))
+    ap (λ x. x ∷ tasksOf (place + length (render l)) (k + opens (lineItems (render l))) (map render ls)) (task-line place k l (all-fair room before l good))
     ∙ ap (λ n. taskMeant place k l ∷ tasksOf (place + length (render l)) (k + n) (map render ls)) (opens-line l)
     ∙ ap (λ x. taskMeant place k l ∷ x) (tasks-written room (past before l) (place + length (render l)) (k + count (l .sections)) ls more)
 
 sections-written : (room before : Counts) (task k : ℕ) (ls : List Line) → AllGood room before ls → sectionsOf task k (map render ls) ≡ allSectionsMeant task k ls
 sections-written room before task k [] h = refl
 sections-written room before task k (l ∷ ls) (good, more) =
-    ap (λ x. x ++ sectionsOf (task + 1) (k + opens (lineItems (render l))) (map render ls)) (sections-line task k l (fair-line room before l good))
+    ap (λ x. x ++ sectionsOf (task + 1) (k + opens (lineItems (render l))) (map render ls)) (sections-line task k l (all-fair room before l good))
     ∙ ap (λ n. sectionsMeant task k None (l .sections) ++ sectionsOf (task + 1) (k + n) (map render ls)) (opens-line l)
     ∙ ap (λ x. sectionsMeant task k None (l .sections) ++ x) (sections-written room (past before l) (task + 1) (k + count (l .sections)) ls more)
-
--- what the verdict on a written line means
-abbrev pub Told : Counts → Counts → Line → Result ℕ LineFault → Type 0
-Told room before l (Ok n) = Good room before l × (n ≡ before .sections + count (l .sections))
-Told room before l (Err f) = (f .rule ≡ Form → ⊥) × First room before l (f .rule) (f .place)
 
 -- a breach of a line that a text begins with
 bad-fault : (room before : Counts) (text : List ℕ) (rule : Rule) (p : ℕ) → (rule ≡ Form → ⊥) → Bad room before text rule p → Fault room before text rule p
@@ -119,15 +92,15 @@ prepend room before l text more (Err (Broken rule place)) e good (ls, rest, is, 
 form-refused : (room before : Counts) (line : List ℕ) (k : ℕ) → formFault line ≡ Some k → lineJudged room before line ≡ Err (record { rule = Form; place = k })
 form-refused room before line k e = at-once (formFault line) _ e
   where
-  at-once : (o : Option ℕ) (later : Result ℕ LineFault) → o ≡ Some k → unless Form o later ≡ Err (record { rule = Form; place = k })
-  at-once o later h = ap (λ x. unless Form x later) h
+    at-once : (o : Option ℕ) (later : Result ℕ LineFault) → o ≡ Some k → unless Form o later ≡ Err (record { rule = Form; place = k })
+    at-once o later h = ap (λ x. unless Form x later) h
 
 no-lines : (t : List ℕ) → linesOf t ≡ [] → t ≡ []
 no-lines [] h = refl
 no-lines (b ∷ t) h = absurd (some-lines (at-front (b ∷ t) (omega arith)) h)
   where
-  some-lines : {x : List ℕ} {xs : List (List ℕ)} → linesOf (b ∷ t) ≡ x ∷ xs → linesOf (b ∷ t) ≡ [] → ⊥
-  some-lines p q = let z : _≡_ {A = ℕ} 0 1 = cc in omega arith
+    some-lines : {x : List ℕ} {xs : List (List ℕ)} → linesOf (b ∷ t) ≡ x ∷ xs → linesOf (b ∷ t) ≡ [] → ⊥
+    some-lines p q = let z : _≡_ {A = ℕ} 0 1 = cc in omega arith
 
 some-text : (t piece : List ℕ) (lines : List (List ℕ)) → linesOf t ≡ piece ∷ lines → 0 < length t
 some-text [] piece lines e = let z : _≡_ {A = ℕ} 0 1 = cc in absurd (omega arith)
@@ -144,84 +117,83 @@ no-line : (ls : List Line) → 1 ≤ length ls → map render ls ≡ [] → ⊥
 no-line [] h e = omega arith
 no-line (l ∷ ls) h e = let z : _≡_ {A = ℕ} 0 1 = cc in omega arith
 
-module _ (told : (room before : Counts) (l : Line) → Told room before l (lineJudged room before (render l))) where
-  -- a text whose first line is well formed
-  by-line : (room before : Counts) (text : List ℕ) (lines : List (List ℕ)) (l : Line) (more : List ℕ) (r : Result ℕ LineFault) → text ≡ render l ++ more → Told room before l r → LinesMean room (past before l) more (linesJudged room (past before l) lines) → LinesMean room before text (go-on room before r lines)
-  by-line room before text lines l more (Err f) e (real, first) next =
-      ([], text, refl, tt, omega arith, f .place, refl, bad-fault room before text (f .rule) (f .place) real (l, more, e, first))
-  by-line room before text lines l more (Ok n) e (good, is) next =
-      subst (λ s. LinesMean room before text (linesJudged room (record { tasks = before .tasks + 1; sections = s }) lines)) (sym is)
-      (prepend room before l text more (linesJudged room (past before l) lines) e good next)
+-- a text whose first line is well formed
+by-line : (room before : Counts) (text : List ℕ) (lines : List (List ℕ)) (l : Line) (more : List ℕ) (r : Result ℕ LineFault) → text ≡ render l ++ more → Told room before l r → LinesMean room (past before l) more (linesJudged room (past before l) lines) → LinesMean room before text (go-on room before r lines)
+by-line room before text lines l more (Err f) e (real, first) next =
+    ([], text, refl, tt, omega arith, f .place, refl, bad-fault room before text (f .rule) (f .place) real (l, more, e, first))
+by-line room before text lines l more (Ok n) e (good, is) next =
+    subst (λ s. LinesMean room before text (linesJudged room (record { tasks = before .tasks + 1; sections = s }) lines)) (sym is)
+    (prepend room before l text more (linesJudged room (past before l) lines) e good next)
 
-  -- a text whose first line may be broken
-  by-form : (room before : Counts) (text piece : List ℕ) (lines : List (List ℕ)) (o : Option ℕ) → formFault piece ≡ o → Formed text o → ((l : Line) (more : List ℕ) → text ≡ render l ++ more → LinesMean room before text (linesJudged room before (piece ∷ lines))) → LinesMean room before text (linesJudged room before (piece ∷ lines))
-  by-form room before text piece lines (Some k) e broken next =
-      subst (λ r. LinesMean room before text (go-on room before r lines)) (sym (form-refused room before piece k e))
-      ([], text, refl, tt, omega arith, k, refl, broken)
-  by-form room before text piece lines None e (l, more, is) next = next l more is
+-- a text whose first line may be broken
+by-form : (room before : Counts) (text piece : List ℕ) (lines : List (List ℕ)) (o : Option ℕ) → formFault piece ≡ o → Formed text o → ((l : Line) (more : List ℕ) → text ≡ render l ++ more → LinesMean room before text (linesJudged room before (piece ∷ lines))) → LinesMean room before text (linesJudged room before (piece ∷ lines))
+by-form room before text piece lines (Some k) e broken next =
+    subst (λ r. LinesMean room before text (go-on room before r lines)) (sym (form-refused room before piece k e))
+    ([], text, refl, tt, omega arith, k, refl, broken)
+by-form room before text piece lines None e (l, more, is) next = next l more is
 
-  lines-mean : (room before : Counts) (lines : List (List ℕ)) (text : List ℕ) → linesOf text ≡ lines → LinesMean room before text (linesJudged room before lines)
-  lines-mean room before [] text e = ([], no-lines text e, tt, refl)
-  lines-mean room before (piece ∷ lines) text e =
-      let front = same-first _ _ _ _ (sym (at-front text (some-text text piece lines e)) ∙ e) in
-      by-form room before text piece lines (formFault text) (ap formFault (sym (front .0)) ∙ first-formed (Name 0) 0 text) (formed text)
-      (λ l more is.
-          let same = same-first _ _ _ _ (sym (one-line l more) ∙ sym (ap linesOf is) ∙ e) in
-          by-line room before text lines l more (lineJudged room before piece) is
-          (subst (λ x. Told room before l (lineJudged room before x)) (same .0) (told room before l))
-          (lines-mean room (past before l) lines more (same .1)))
+lines-mean : (room before : Counts) (lines : List (List ℕ)) (text : List ℕ) → linesOf text ≡ lines → LinesMean room before text (linesJudged room before lines)
+lines-mean room before [] text e = ([], no-lines text e, tt, refl)
+lines-mean room before (piece ∷ lines) text e =
+    let front = same-first _ _ _ _ (sym (at-front text (some-text text piece lines e)) ∙ e) in
+    by-form room before text piece lines (formFault text) (ap formFault (sym (front .0)) ∙ first-formed (Name 0) 0 text) (formed text)
+    (λ l more is.
+    let same = same-first _ _ _ _ (sym (one-line l more) ∙ sym (ap linesOf is) ∙ e) in
+    by-line room before text lines l more (lineJudged room before piece) is
+    (subst (λ x. Told room before l (lineJudged room before x)) (same .0) (line-told room before l))
+    (lines-mean room (past before l) lines more (same .1)))
 
-  -- lines that break no rule are read
-  good-line : (room before : Counts) (l : Line) (lines : List (List ℕ)) (r : Result ℕ LineFault) → Told room before l r → Good room before l → isOk (linesJudged room (past before l) lines) ≡ true → isOk (go-on room before r lines) ≡ true
-  good-line room before l lines (Err f) (real, first) good next = absurd (good (f .rule) (f .place) (first .breaks))
-  good-line room before l lines (Ok n) (also, is) good next =
-      ap (λ s. isOk (linesJudged room (record { tasks = before .tasks + 1; sections = s }) lines)) is ∙ next
+-- lines that break no rule are read
+good-line : (room before : Counts) (l : Line) (lines : List (List ℕ)) (r : Result ℕ LineFault) → Told room before l r → Good room before l → isOk (linesJudged room (past before l) lines) ≡ true → isOk (go-on room before r lines) ≡ true
+good-line room before l lines (Err f) (real, first) good next = absurd (good (f .rule) (f .place) (first .breaks))
+good-line room before l lines (Ok n) (also, is) good next =
+    ap (λ s. isOk (linesJudged room (record { tasks = before .tasks + 1; sections = s }) lines)) is ∙ next
 
-  good-lines : (room before : Counts) (ls : List Line) → AllGood room before ls → isOk (linesJudged room before (map render ls)) ≡ true
-  good-lines room before [] h = refl
-  good-lines room before (l ∷ ls) (good, more) =
-      good-line room before l (map render ls) (lineJudged room before (render l)) (told room before l) good (good-lines room (past before l) ls more)
+good-lines : (room before : Counts) (ls : List Line) → AllGood room before ls → isOk (linesJudged room before (map render ls)) ≡ true
+good-lines room before [] h = refl
+good-lines room before (l ∷ ls) (good, more) =
+    good-line room before l (map render ls) (lineJudged room before (render l)) (line-told room before l) good (good-lines room (past before l) ls more)
 
-  -- the verdict on the lines of a text that has some
-  whole : (room : Counts) (text : List ℕ) (r : Result Counts Refusal) → (length text ≡ 0 → ⊥) → LinesMean room nothingRead text r → Meaning text room r
-  whole room text (Ok counts) some (ls, is, all, n) =
-      let lined = ap linesOf is ∙ lines-written ls in
-      record {
-        lines = ls;
-        some = some-line ls (λ none. some (ap length (is ∙ ap renderAll none)));
-        written = is;
-        good = all;
-        counted = n;
-        tasks = ap (tasksOf 0 0) lined ∙ tasks-written room nothingRead 0 0 ls all;
-        sections = ap (sectionsOf 0 0) lined ∙ sections-written room nothingRead 0 0 ls all;
-      }
-  whole room text (Err TooLong) some h = absurd h
-  whole room text (Err Empty) some h = absurd h
-  whole room text (Err (Broken rule place)) some (ls, rest, is, all, at, p, byte, fault) = record {
-    lines = ls;
-    rest = rest;
-    written = is;
-    good = all;
-    line = omega arith;
-    before-byte = p;
-    byte = byte;
-    fault = fault;
-  }
+-- the verdict on the lines of a text that has some
+whole : (room : Counts) (text : List ℕ) (r : Result Counts Refusal) → (length text ≡ 0 → ⊥) → LinesMean room nothingRead text r → Meaning text room r
+whole room text (Ok counts) some (ls, is, all, n) =
+    let lined = ap linesOf is ∙ lines-written ls in
+    record {
+      lines = ls;
+      some = some-line ls (λ none. some (ap length (is ∙ ap renderAll none)));
+      written = is;
+      good = all;
+      counted = n;
+      tasks = ap (tasksOf 0 0) lined ∙ tasks-written room nothingRead 0 0 ls all;
+      sections = ap (sectionsOf 0 0) lined ∙ sections-written room nothingRead 0 0 ls all;
+    }
+whole room text (Err TooLong) some h = absurd h
+whole room text (Err Empty) some h = absurd h
+whole room text (Err (Broken rule place)) some (ls, rest, is, all, at, p, byte, fault) = record {
+  lines = ls;
+  rest = rest;
+  written = is;
+  good = all;
+  line = omega arith;
+  before-byte = p;
+  byte = byte;
+  fault = fault;
+}
 
-  pub meaning : (text : List ℕ) (tasks sections : ℕ) → Meaning text (roomFor tasks sections) (judged text tasks sections)
-  unfolding judged
-  meaning text tasks sections =
-      let room = roomFor tasks sections in
-      cond-both (ltb longestText (length text)) (Err TooLong) _ (Meaning text room) (λ e. ltb-true longestText (length text) e)
-      (λ _. cond-both (eqb (length text) 0) (Err Empty) _ (Meaning text room) (λ e. nil-from-length text (eqb-true (length text) 0 e))
-      (λ e. whole room text (linesJudged room nothingRead (linesOf text)) (eqb-false (length text) 0 e) (lines-mean room nothingRead (linesOf text) text refl)))
+pub meaning : (text : List ℕ) (tasks sections : ℕ) → Meaning text (roomFor tasks sections) (judged text tasks sections)
+unfolding judged
+meaning text tasks sections =
+    let room = roomFor tasks sections in
+    cond-both (ltb longestText (length text)) (Err TooLong) _ (Meaning text room) (λ e. ltb-true longestText (length text) e)
+    (λ _. cond-both (eqb (length text) 0) (Err Empty) _ (Meaning text room) (λ e. nil-from-length text (eqb-true (length text) 0 e))
+    (λ e. whole room text (linesJudged room nothingRead (linesOf text)) (eqb-false (length text) 0 e) (lines-mean room nothingRead (linesOf text) text refl)))
 
-  pub exactly : (text : List ℕ) (tasks sections : ℕ) → Exactly text (roomFor tasks sections) (judged text tasks sections)
-  unfolding judged
-  exactly text tasks sections ls some short is all =
-      let room = roomFor tasks sections in
-      let lined = ap linesOf is ∙ lines-written ls in
-      let r = linesJudged room nothingRead (linesOf text) in
-      ap isOk (cond-false (ltb longestText (length text)) _ _ (le-ltb longestText (length text) short)
-      ∙ cond-false (eqb (length text) 0) _ _ (ne-eqb (length text) 0 (λ z. no-line ls some (sym lined ∙ ap linesOf (nil-from-length text z)))))
-      ∙ ap (λ x. isOk (linesJudged room nothingRead x)) lined ∙ good-lines room nothingRead ls all
+pub exactly : (text : List ℕ) (tasks sections : ℕ) → Exactly text (roomFor tasks sections) (judged text tasks sections)
+unfolding judged
+exactly text tasks sections ls some short is all =
+    let room = roomFor tasks sections in
+    let lined = ap linesOf is ∙ lines-written ls in
+    let r = linesJudged room nothingRead (linesOf text) in
+    ap isOk (cond-false (ltb longestText (length text)) _ _ (le-ltb longestText (length text) short)
+    ∙ cond-false (eqb (length text) 0) _ _ (ne-eqb (length text) 0 (λ z. no-line ls some (sym lined ∙ ap linesOf (nil-from-length text z)))))
+    ∙ ap (λ x. isOk (linesJudged room nothingRead x)) lined ∙ good-lines room nothingRead ls all

@@ -21,16 +21,13 @@ use Rattle.table.specs.Nest.{top, outer}
 use Rattle.table.specs.Head.{headOf, lineItems}
 use Rattle.table.specs.Rule.{opens}
 use Rattle.table.specs.Grammar.{Letter, Byte, Numeral, Sections, none, section, Line, render}
-use Rattle.table.specs.Breach.{value, Fair, resource, sectionsPlace, deadlinePlace, periodPlace, costPlace, count}
+use Rattle.table.specs.Breach.{value, resource, sectionsPlace, count}
 use Rattle.table.specs.Record.{lettersFrom, sectionOf, sectionsIn, taskOf}
 use Rattle.table.specs.Meant.{smallSet, capitalSet, sectionMeant, sectionsMeant, taskMeant}
-use Rattle.table.proofs.Parsed.{read, fair-ticks, name-length, head-deadline, head-period, head-cost}
+use Rattle.table.proofs.Parsed.{read, fair-ticks, name-length}
+use Rattle.table.proofs.Sectioned.{opens-line}
+use Rattle.table.proofs.Timed.{FairAll, AllFair, ticks-deadline, ticks-period, ticks-cost}
 use Rattle.table.proofs.Spotted.{mark, letterItems, lettersAt, insideAt, afterAt, forestItems, items-line}
-
--- each number of a forest may stand
-abbrev pub Fairs : Sections → Type 0
-Fairs none = Unit {0}
-Fairs (section n ls inner after) = Fair n × (Fairs inner × Fairs after)
 
 abbrev pair : ℕ → ℕ → Letters
 pair s c = record { small = s; capital = c }
@@ -71,14 +68,14 @@ past-letters task k p st [] is = refl
 past-letters task k p st (l ∷ ls) is = past-letters task k (p + 2) st ls is
 
 -- the records of a forest before others
-sections-are : (task k p : ℕ) (st : List ℕ) (f : Sections) (is : List Item) → Fairs f → sectionsIn task k st (forestItems p f is) ≡ sectionsMeant task k (top st) f ++ sectionsIn task (k + count f) st is
+sections-are : (task k p : ℕ) (st : List ℕ) (f : Sections) (is : List Item) → FairAll f → sectionsIn task k st (forestItems p f is) ≡ sectionsMeant task k (top st) f ++ sectionsIn task (k + count f) st is
 sections-are task k p st none is h = ap (λ n. sectionsIn task n st is) (let e : k ≡ k + 0 = omega arith in e)
 sections-are task k p st (section n ls f g) is (fair, (in-f, in-g)) =
     let rest = forestItems (afterAt p n ls f) g is in
     let inside = forestItems (insideAt p n ls) f (Close ∷ rest) in
     let here : sectionOf task (top st) (lettersFrom 0 0 (letterItems (lettersAt p n) ls inside)) (ticksOf (read (p + 1) n)) ≡ sectionMeant task (top st) n ls =
-        ap (λ x. sectionOf task (top st) x (ticksOf (read (p + 1) n))) (letters-are (lettersAt p n) 0 0 ls inside (forest-no-letter (insideAt p n ls) f rest))
-        ∙ ap (λ x. sectionOf task (top st) (pair (smallSet 0 ls) (capitalSet 0 ls)) x) (fair-ticks (p + 1) n fair) in
+    ap (λ x. sectionOf task (top st) x (ticksOf (read (p + 1) n))) (letters-are (lettersAt p n) 0 0 ls inside (forest-no-letter (insideAt p n ls) f rest))
+    ∙ ap (λ x. sectionOf task (top st) (pair (smallSet 0 ls) (capitalSet 0 ls)) x) (fair-ticks (p + 1) n fair) in
     let count-is : k + 1 + count f + count g ≡ k + (1 + count f + count g) = omega arith in
     ap (λ x. x ∷ sectionsIn task (k + 1) (k ∷ st) (letterItems (lettersAt p n) ls inside)) here
     ∙ ap (λ l. sectionMeant task (top st) n ls ∷ l) (past-letters task (k + 1) (lettersAt p n) (k ∷ st) ls inside
@@ -87,27 +84,7 @@ sections-are task k p st (section n ls f g) is (fair, (in-f, in-g)) =
     ∙ ap (λ x. sectionsMeant task (k + 1 + count f) (top st) g ++ sectionsIn task x st is) count-is)
     ∙ sym (append-assoc (sectionsMeant task (k + 1) (Some k) f) (sectionsMeant task (k + 1 + count f) (top st) g) _))
 
-past-letters-opens : (p : ℕ) (ls : List (Byte Letter)) (is : List Item) → opens (letterItems p ls is) ≡ opens is
-past-letters-opens p [] is = refl
-past-letters-opens p (l ∷ ls) is = past-letters-opens (p + 2) ls is
-
-opens-forest : (p : ℕ) (f : Sections) (is : List Item) → opens (forestItems p f is) ≡ count f + opens is
-opens-forest p none is = omega arith
-opens-forest p (section n ls f g) is =
-    omega (arith, past-letters-opens (lettersAt p n) ls (forestItems (insideAt p n ls) f (Close ∷ forestItems (afterAt p n ls f) g is)),
-    opens-forest (insideAt p n ls) f (Close ∷ forestItems (afterAt p n ls f) g is), opens-forest (afterAt p n ls f) g is)
-
-pub opens-line : (l : Line) → opens (lineItems (render l)) ≡ count (l .sections)
-opens-line l = ap opens (items-line l) ∙ omega (arith, opens-forest (sectionsPlace l) (l .sections) [])
-
--- each number of a line may stand
-pub record FairLine (l : Line) : Type 0 where
-  pub deadline : Fair (l .deadline)
-  pub period : Fair (l .period)
-  pub cost : Fair (l .cost)
-  pub sections : Fairs (l .sections)
-
-pub sections-line : (task k : ℕ) (l : Line) → FairLine l → sectionsIn task k [] (lineItems (render l)) ≡ sectionsMeant task k None (l .sections)
+pub sections-line : (task k : ℕ) (l : Line) → AllFair l → sectionsIn task k [] (lineItems (render l)) ≡ sectionsMeant task k None (l .sections)
 sections-line task k l h =
     ap (sectionsIn task k []) (items-line l) ∙ sections-are task k (sectionsPlace l) [] (l .sections) [] (h .sections) ∙ append-nil (sectionsMeant task k None (l .sections))
 
@@ -120,11 +97,11 @@ make place name d t c k n = record {
   sections = record { first = k; count = n };
 }
 
-pub task-line : (place k : ℕ) (l : Line) → FairLine l → taskOf place k (render l) ≡ taskMeant place k l
+pub task-line : (place k : ℕ) (l : Line) → AllFair l → taskOf place k (render l) ≡ taskMeant place k l
 task-line place k l h =
-    let d = ap ticksOf (head-deadline l) ∙ fair-ticks (deadlinePlace l) (l .deadline) (h .deadline) in
-    let t = ap ticksOf (head-period l) ∙ fair-ticks (periodPlace l) (l .period) (h .period) in
-    let c = ap ticksOf (head-cost l) ∙ fair-ticks (costPlace l) (l .cost) (h .cost) in
+    let d = ticks-deadline l h in
+    let t = ticks-period l h in
+    let c = ticks-cost l h in
     let r = headOf (render l) in
     let n = opens (lineItems (render l)) in
     ap (λ x. make place x (ticksOf (r .deadline)) (ticksOf (r .period)) (ticksOf (r .cost)) k n) (name-length l)

@@ -51,8 +51,16 @@ length-sections none t = omega arith
 length-sections (section n ls f g) t =
     let rest = λ (u : List ℕ). 123 ∷ letters ls (sectionsText f (32 ∷ 125 ∷ sectionsText g u)) in
     let inside = λ (u : List ℕ). sectionsText f (32 ∷ 125 ∷ sectionsText g u) in
-    omega (arith, length-bytes (n .more) (rest t), length-bytes (n .more) (rest []), length-letters ls (inside t), length-letters ls (inside []),
-    length-sections f (32 ∷ 125 ∷ sectionsText g t), length-sections f (32 ∷ 125 ∷ sectionsText g []), length-sections g t)
+    omega (
+      arith,
+      length-bytes (n .more) (rest t),
+      length-bytes (n .more) (rest []),
+      length-letters ls (inside t),
+      length-letters ls (inside []),
+      length-sections f (32 ∷ 125 ∷ sectionsText g t),
+      length-sections f (32 ∷ 125 ∷ sectionsText g []),
+      length-sections g t,
+    )
 
 -- the same places, counted
 pub inside-is : (p : ℕ) (n : Numeral) (ls : List (Byte Letter)) → insideAt p n ls ≡ p + width n + 2 + 2 * length ls
@@ -60,14 +68,27 @@ inside-is p n ls = omega (arith, length-bytes (n .more) (123 ∷ letters ls []),
 
 pub after-is : (p : ℕ) (n : Numeral) (ls : List (Byte Letter)) (f : Sections) → afterAt p n ls f ≡ insideAt p n ls + length (sectionsText f []) + 2
 after-is p n ls f =
-    omega (arith, length-bytes (n .more) (123 ∷ letters ls (sectionsText f (32 ∷ 125 ∷ []))), length-bytes (n .more) [],
-    length-letters ls (sectionsText f (32 ∷ 125 ∷ [])), length-sections f (32 ∷ 125 ∷ []), inside-is p n ls)
+    omega (
+      arith,
+      length-bytes (n .more) (123 ∷ letters ls (sectionsText f (32 ∷ 125 ∷ []))),
+      length-bytes (n .more) [],
+      length-letters ls (sectionsText f (32 ∷ 125 ∷ [])),
+      length-sections f (32 ∷ 125 ∷ []),
+      inside-is p n ls,
+    )
 
 pub end-is : (p : ℕ) (n : Numeral) (ls : List (Byte Letter)) (f g : Sections) → p + length (sectionsText (section n ls f g) []) ≡ afterAt p n ls f + length (sectionsText g [])
 end-is p n ls f g =
     let rest = sectionsText f (32 ∷ 125 ∷ sectionsText g []) in
-    omega (arith, length-bytes (n .more) (123 ∷ letters ls rest), length-bytes (n .more) [], length-letters ls rest,
-    length-sections f (32 ∷ 125 ∷ sectionsText g []), inside-is p n ls, after-is p n ls f)
+    omega (
+      arith,
+      length-bytes (n .more) (123 ∷ letters ls rest),
+      length-bytes (n .more) [],
+      length-letters ls rest,
+      length-sections f (32 ∷ 125 ∷ sectionsText g []),
+      inside-is p n ls,
+      after-is p n ls f,
+    )
 
 -- the digits behind the first are passed over
 items-digits : (p : ℕ) (ds : List (Byte Digit)) (t : List ℕ) → items true p (bytes ds (123 ∷ t)) ≡ items false (p + length ds + 1) t

@@ -151,7 +151,7 @@ back (Name n) b l =
     cond-both (isSmall b && ltb n 8) _ _ (Back (Name n) b)
     (λ e. let k : Small b = grind (arith, tells) in (grind (arith, tells), λ t r. (of b k ∷ r .0, r .1, omega arith, omega arith, ap (λ x. b ∷ x) (r .4), r .5)))
     (λ _. cond-both (eqb b 58 && ltb 0 n) (Go Colon) Refuse (Back (Name n) b)
-        (λ e. let k : b ≡ 58 = grind (arith, tells) in let some : 0 < n = grind (arith, tells) in (tt, λ t r. ([], t, omega arith, omega arith, ap (λ x. x ∷ t) k, r))) (λ _. tt))
+    (λ e. let k : b ≡ 58 = grind (arith, tells) in let some : 0 < n = grind (arith, tells) in (tt, λ t r. ([], t, omega arith, omega arith, ap (λ x. x ∷ t) k, r))) (λ _. tt))
 back Colon b l = lit-back Colon (Key Deadline) b 32 tt (λ t r. (t, refl, r))
 back (Key f) b l = lit-back (Key f) (Equals f) b (key f) tt (λ t r. (t, refl, r))
 back (Equals f) b l = lit-back (Equals f) (Start f) b 61 tt (λ t r. (t, refl, r))
@@ -175,7 +175,7 @@ back (Member d) b l =
     cond-both (isLetter b) (Go (Body d)) _ (Back (Member d) b)
     (λ e. (tt, λ t r. (of b (letter-from b e) ∷ r .0, r .1, r .2, r .3, ap (λ x. 32 ∷ b ∷ x) (r .4))))
     (λ _. cond-both (isDigit b) (Go (Length (d + 1))) _ (Back (Member d) b) (λ e. (tt, λ t r. back-deeper d b (digit-from b e) t (subst (λ k. Rest (Length k) t) (add-one d) r)))
-        (λ _. lit-back (Member d) (Closed d) b 125 tt (λ t r. ([], none, r .0, r .1, ap (λ x. 32 ∷ 125 ∷ x) (r .2)))))
+    (λ _. lit-back (Member d) (Closed d) b 125 tt (λ t r. ([], none, r .0, r .1, ap (λ x. 32 ∷ 125 ∷ x) (r .2)))))
 
 -- a step on: what may follow begins with a byte that the state takes
 abbrev pub Fore : List ℕ → Move → Type 0

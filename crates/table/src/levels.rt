@@ -37,7 +37,7 @@ fn lesser_of(a: Option<u32>, b: Option<u32>) -> Option<u32>
 }
 
 /// The relative deadline of the task with this number, if the table has it.
-fn deadline_of(tasks: &[TaskRecord], task: usize) -> Option<u32>
+pub fn deadline_of(tasks: &[TaskRecord], task: usize) -> Option<u32>
     ensures { λ r. ⌜ r ≡ deadlineOf (now (tasks .entry)) task ⌝ }
 {
     if task < tasks.len() {

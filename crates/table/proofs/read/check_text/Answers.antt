@@ -1,9 +1,7 @@
 use mathlib.Core.Path.{_≡_, sym, _∙_, ap}
-use Prim.Native.Nat.{min}
 use Rattle.std.proofs.shelf.Tests.{cond-true, cond-false, lt-ltb, le-ltb}
 use Rattle.table.specs.Judged.{judged, linesJudged, nothingRead}
 use Rattle.table.specs.Lines.{linesOf}
-use Rattle.table.proofs.Lined.{sofar}
 use Rattle.table.proofs.read.check_text.Needs as need
 
 pub returns-then-text-gt-LONGEST-TEXT : need.returns-then-text-gt-LONGEST-TEXT
@@ -17,7 +15,5 @@ returns-then-is-empty c = sym (cond-false _ _ _ (le-ltb _ _ (c .if-text-gt-LONGE
 pub returns : need.returns
 unfolding judged
 returns c =
-    c .check-lines .ensures
-    ∙ ap (λ t. linesJudged (sofar t (c .min-2 .result)) nothingRead (linesOf (c .args .text .now))) (c .min .ensures)
-    ∙ ap (λ s. linesJudged (sofar (min (c .args .tasks) 32) s) nothingRead (linesOf (c .args .text .now))) (c .min-2 .ensures)
+    c .check-lines .ensures ∙ ap (λ room. linesJudged room nothingRead (linesOf (c .args .text .now))) (c .room-for .ensures)
     ∙ sym (cond-false _ _ _ (le-ltb _ _ (c .if-text-gt-LONGEST-TEXT .left)) ∙ cond-false _ _ _ (sym (c .if-is-empty .ensures tt)))

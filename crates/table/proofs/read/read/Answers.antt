@@ -1,22 +1,22 @@
-use mathlib.Core.Path.{sym}
-use native.Mathlib.Omega.{arith}
+use mathlib.Core.Path.{sym, subst}
 use lib.ListN.{length}
-use Rattle.table.specs.Judged.{roomFor, nothingRead}
-use Rattle.table.specs.Lines.{linesOf}
-use Rattle.table.proofs.Counted.{judged-ok, counted}
+use Rattle.table.specs.Judged.{roomFor}
+use Rattle.table.specs.Meaning.{Meaning, Exactly}
+use Rattle.table.proofs.Counted.{judged-within}
+use Rattle.table.proofs.Meanings.{meaning, exactly}
 use Rattle.table.proofs.read.read.Needs as need
-
-pub write-records-requires : need.write-records-requires
-write-records-requires c κs = judged-ok (c .args .text .now) (length (c .args .tasks .now)) (length (c .args .sections .now)) (c .in-Continue-counts .counts) (sym (c .in-Continue-counts .ensures tt))
 
 pub returns : need.returns
 returns c =
+    let text = c .args .text .now in
     let t = length (c .args .tasks .now) in
     let s = length (c .args .sections .now) in
-    let p = counted (roomFor t s) nothingRead (c .in-Continue-counts .counts) 0 (linesOf (c .args .text .now)) (judged-ok (c .args .text .now) t s (c .in-Continue-counts .counts) (sym (c .in-Continue-counts .ensures tt))) in
+    let is = c .read-checked .ensures .value in
     record {
-      value = c .in-Continue-counts .ensures tt;
-      bound = (omega (arith, p .tasks-within), omega (arith, p .sections-within));
-      tasks = c .write-records .ensures .tasks;
-      sections = c .write-records .ensures .sections;
+      value = is;
+      tasks = c .read-checked .ensures .tasks;
+      sections = c .read-checked .ensures .sections;
+      meaning = subst (Meaning text (roomFor t s)) (sym is) (meaning text t s);
+      exactly = subst (Exactly text (roomFor t s)) (sym is) (exactly text t s);
+      bound = judged-within text t s (c .read-checked .result) is;
     }

@@ -1,0 +1,98 @@
+//! A few answers that are worked out by hand.
+use super::NO_SECTION;
+use super::NO_TASK;
+use admission::admit::admit;
+use admission::refusal::Refusal as Unfit;
+use admission::refusal::RefusalDebug as UnfitDebug;
+use admission::refusal::RefusalPartialEq as UnfitPartialEq;
+use std::test::*;
+use table::read::read;
+use table::records::Counts;
+use table::records::CountsDebug;
+use table::records::CountsPartialEq;
+use table::records::Span;
+use table::records::TaskRecord;
+use table::refusal::Place;
+use table::refusal::Refusal;
+use table::refusal::RefusalDebug;
+use table::refusal::RefusalPartialEq;
+use table::refusal::Rule;
+
+/// What reading answers with room for every table.
+fn answer(text: &[u8]) -> Result<Counts, Refusal> {
+    let mut tasks = [NO_TASK; 32];
+    let mut sections = [NO_SECTION; 64];
+    read(text, &mut tasks, &mut sections)
+}
+
+/// A refusal of the rule on the first line.
+fn broken(rule: Rule, byte: usize) -> Result<Counts, Refusal> {
+    Err(Refusal::Broken(rule, Place { line: 1, byte }))
+}
+
+#[test]
+fn each_refusal_has_its_place() -> Result<(), Fail> {
+    let cases: [(&[u8], Result<Counts, Refusal>); 9] = [
+        (b"", Err(Refusal::Empty)),
+        (b"x: D=1", broken(Rule::Form, 7)),
+        (b"x: D=1 T=1 C=01\n", broken(Rule::Number, 14)),
+        (b"x: D=3 T=4 C=4\n", broken(Rule::Times, 1)),
+        (
+            b"x: D=9 T=9 C=9 1{ 1{ 1{ 1{ 1{ 1{ 1{ 1{ 1{ } } } } } } } } }\n",
+            broken(Rule::Sections, 40),
+        ),
+        (
+            b"x: D=9 T=9 C=9 1{ a 1{ A } }\n",
+            broken(Rule::Repeated, 24),
+        ),
+        (b"x: D=9 T=9 C=9 1{ 2{ } }\n", broken(Rule::Length, 19)),
+        (b"x: D=9 T=9 C=9 \xff\n", broken(Rule::Form, 16)),
+        (
+            b"x: D=9 T=9 C=9 1{ a }\n",
+            Ok(Counts {
+                tasks: 1,
+                sections: 1,
+            }),
+        ),
+    ];
+    for (text, expected) in cases {
+        check_eq(answer(text), expected)?;
+    }
+    Ok(())
+}
+
+/// What admission says of a text that is read, if it refuses it.
+fn unfit(text: &[u8]) -> Option<Unfit> {
+    let mut tasks = [NO_TASK; 32];
+    let mut sections = [NO_SECTION; 64];
+    match read(text, &mut tasks, &mut sections) {
+        Ok(counts) => {
+            let (k, m) = (counts.tasks, counts.sections);
+            admit(&tasks[0..k], &sections[0..m]).err()
+        }
+        Err(_) => None,
+    }
+}
+
+#[test]
+fn a_section_can_be_too_long() -> Result<(), Fail> {
+    let head = "hostrd: D=40 T=50 C=10 9{ a B }\nmapupd: D=50 T=80 C=10 8{ a 2{ B 1{ C } } }\n";
+    check_eq(unfit(head.as_bytes()), None)?;
+    check_eq(
+        unfit(b"a: D=40 T=50 C=10 9{ a }\nb: D=60 T=90 C=30 30{ a }\nc: D=50 T=80 C=11\n"),
+        Some(Unfit::Demand(50, 51)),
+    )
+}
+
+#[test]
+fn rules_of_records_come_first() -> Result<(), Fail> {
+    let none = Span { first: 0, count: 0 };
+    let task = TaskRecord {
+        name: none,
+        deadline: 3,
+        period: 4,
+        cost: 4,
+        sections: none,
+    };
+    check_eq(admit(&[task], &[]).err(), Some(Unfit::Records))
+}
