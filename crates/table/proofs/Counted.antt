@@ -89,3 +89,8 @@ judged-within text tasks sections (Ok counts) e =
     let p = counted (roomFor tasks sections) nothingRead counts 0 (linesOf text) (judged-ok text tasks sections counts (sym e)) in
     (omega (arith, p .tasks-within), omega (arith, p .sections-within))
 judged-within text tasks sections (Err refusal) e = tt
+
+-- a result that is known is known where it is Ok
+pub made-is : {X Y : Type 0} (r known : Result X Y) → r ≡ known → made r (λ x. known ≡ Ok x)
+made-is (Ok x) known e = sym e
+made-is (Err y) known e = tt

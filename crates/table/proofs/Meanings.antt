@@ -7,7 +7,7 @@ use Prim.Native.Nat.{ℕ, zero, suc, _+_, _≤_, _<_}
 use native.Mathlib.Omega.{arith}
 use lib.Dec.{ltb, eqb}
 use lib.ListN.{length, take, drop}
-use Rattle.std.proofs.shelf.Tests.{cond-false, cond-both, ltb-true, le-ltb, eqb-true, eqb-false, ne-eqb}
+use Rattle.std.proofs.shelf.Tests.{cond-false, cond-both, ltb-true, ltb-false, le-ltb, eqb-true, eqb-false, ne-eqb}
 use Rattle.std.proofs.shelf.Lists.{nil-from-length}
 use Rattle.std.specs.Results.{isOk}
 use Rattle.std.specs.declared.option.Option.{Option}
@@ -77,7 +77,7 @@ LinesMean room before text (Ok counts) = (ls : List Line) × (text ≡ renderAll
 LinesMean room before text (Err TooLong) = ⊥
 LinesMean room before text (Err Empty) = ⊥
 LinesMean room before text (Err (Broken rule place)) =
-    (ls : List Line) × (rest : List ℕ) × (text ≡ renderAll ls ++ rest) × AllGood room before ls × (place .line ≡ before .tasks + length ls + 1)
+    (ls : List Line) × (rest : List ℕ) × (1 ≤ length rest) × (text ≡ renderAll ls ++ rest) × AllGood room before ls × (place .line ≡ before .tasks + length ls + 1)
     × (p : ℕ) × (place .byte ≡ p + 1) × Fault room (pastAll before ls) rest rule p
 
 -- one good line more in front
@@ -85,8 +85,8 @@ prepend : (room before : Counts) (l : Line) (text more : List ℕ) (r : Result C
 prepend room before l text more (Ok counts) e good (ls, is, all, n) = (l ∷ ls, e ∙ ap (λ x. render l ++ x) is, (good, all), n)
 prepend room before l text more (Err TooLong) e good h = absurd h
 prepend room before l text more (Err Empty) e good h = absurd h
-prepend room before l text more (Err (Broken rule place)) e good (ls, rest, is, all, at, p, byte, fault) =
-    (l ∷ ls, rest, e ∙ ap (λ x. render l ++ x) is ∙ sym (append-assoc (render l) (renderAll ls) rest), (good, all), omega arith, p, byte, fault)
+prepend room before l text more (Err (Broken rule place)) e good (ls, rest, some, is, all, at, p, byte, fault) =
+    (l ∷ ls, rest, some, e ∙ ap (λ x. render l ++ x) is ∙ sym (append-assoc (render l) (renderAll ls) rest), (good, all), omega arith, p, byte, fault)
 
 -- a line whose form is broken is refused there
 form-refused : (room before : Counts) (line : List ℕ) (k : ℕ) → formFault line ≡ Some k → lineJudged room before line ≡ Err (record { rule = Form; place = k })
@@ -118,28 +118,29 @@ no-line [] h e = omega arith
 no-line (l ∷ ls) h e = let z : _≡_ {A = ℕ} 0 1 = cc in omega arith
 
 -- a text whose first line is well formed
-by-line : (room before : Counts) (text : List ℕ) (lines : List (List ℕ)) (l : Line) (more : List ℕ) (r : Result ℕ LineFault) → text ≡ render l ++ more → Told room before l r → LinesMean room (past before l) more (linesJudged room (past before l) lines) → LinesMean room before text (go-on room before r lines)
-by-line room before text lines l more (Err f) e (real, first) next =
-    ([], text, refl, tt, omega arith, f .place, refl, bad-fault room before text (f .rule) (f .place) real (l, more, e, first))
-by-line room before text lines l more (Ok n) e (good, is) next =
+by-line : (room before : Counts) (text : List ℕ) (lines : List (List ℕ)) (l : Line) (more : List ℕ) (r : Result ℕ LineFault) → 1 ≤ length text → text ≡ render l ++ more → Told room before l r → LinesMean room (past before l) more (linesJudged room (past before l) lines) → LinesMean room before text (go-on room before r lines)
+by-line room before text lines l more (Err f) any e (real, first) next =
+    ([], text, any, refl, tt, omega arith, f .place, refl, bad-fault room before text (f .rule) (f .place) real (l, more, e, first))
+by-line room before text lines l more (Ok n) any e (good, is) next =
     subst (λ s. LinesMean room before text (linesJudged room (record { tasks = before .tasks + 1; sections = s }) lines)) (sym is)
     (prepend room before l text more (linesJudged room (past before l) lines) e good next)
 
 -- a text whose first line may be broken
-by-form : (room before : Counts) (text piece : List ℕ) (lines : List (List ℕ)) (o : Option ℕ) → formFault piece ≡ o → Formed text o → ((l : Line) (more : List ℕ) → text ≡ render l ++ more → LinesMean room before text (linesJudged room before (piece ∷ lines))) → LinesMean room before text (linesJudged room before (piece ∷ lines))
-by-form room before text piece lines (Some k) e broken next =
+by-form : (room before : Counts) (text piece : List ℕ) (lines : List (List ℕ)) (o : Option ℕ) → 1 ≤ length text → formFault piece ≡ o → Formed text o → ((l : Line) (more : List ℕ) → text ≡ render l ++ more → LinesMean room before text (linesJudged room before (piece ∷ lines))) → LinesMean room before text (linesJudged room before (piece ∷ lines))
+by-form room before text piece lines (Some k) any e broken next =
     subst (λ r. LinesMean room before text (go-on room before r lines)) (sym (form-refused room before piece k e))
-    ([], text, refl, tt, omega arith, k, refl, broken)
-by-form room before text piece lines None e (l, more, is) next = next l more is
+    ([], text, any, refl, tt, omega arith, k, refl, broken)
+by-form room before text piece lines None any e (l, more, is) next = next l more is
 
 lines-mean : (room before : Counts) (lines : List (List ℕ)) (text : List ℕ) → linesOf text ≡ lines → LinesMean room before text (linesJudged room before lines)
 lines-mean room before [] text e = ([], no-lines text e, tt, refl)
 lines-mean room before (piece ∷ lines) text e =
-    let front = same-first _ _ _ _ (sym (at-front text (some-text text piece lines e)) ∙ e) in
-    by-form room before text piece lines (formFault text) (ap formFault (sym (front .0)) ∙ first-formed (Name 0) 0 text) (formed text)
+    let any = some-text text piece lines e in
+    let front = same-first _ _ _ _ (sym (at-front text any) ∙ e) in
+    by-form room before text piece lines (formFault text) any (ap formFault (sym (front .0)) ∙ first-formed (Name 0) 0 text) (formed text)
     (λ l more is.
     let same = same-first _ _ _ _ (sym (one-line l more) ∙ sym (ap linesOf is) ∙ e) in
-    by-line room before text lines l more (lineJudged room before piece) is
+    by-line room before text lines l more (lineJudged room before piece) any is
     (subst (λ x. Told room before l (lineJudged room before x)) (same .0) (line-told room before l))
     (lines-mean room (past before l) lines more (same .1)))
 
@@ -155,23 +156,26 @@ good-lines room before (l ∷ ls) (good, more) =
     good-line room before l (map render ls) (lineJudged room before (render l)) (line-told room before l) good (good-lines room (past before l) ls more)
 
 -- the verdict on the lines of a text that has some
-whole : (room : Counts) (text : List ℕ) (r : Result Counts Refusal) → (length text ≡ 0 → ⊥) → LinesMean room nothingRead text r → Meaning text room r
-whole room text (Ok counts) some (ls, is, all, n) =
+whole : (room : Counts) (text : List ℕ) (r : Result Counts Refusal) → length text ≤ longestText → (length text ≡ 0 → ⊥) → LinesMean room nothingRead text r → Meaning text room r
+whole room text (Ok counts) short some (ls, is, all, n) =
     let lined = ap linesOf is ∙ lines-written ls in
     record {
       lines = ls;
       some = some-line ls (λ none. some (ap length (is ∙ ap renderAll none)));
+      short = short;
       written = is;
       good = all;
       counted = n;
       tasks = ap (tasksOf 0 0) lined ∙ tasks-written room nothingRead 0 0 ls all;
       sections = ap (sectionsOf 0 0) lined ∙ sections-written room nothingRead 0 0 ls all;
     }
-whole room text (Err TooLong) some h = absurd h
-whole room text (Err Empty) some h = absurd h
-whole room text (Err (Broken rule place)) some (ls, rest, is, all, at, p, byte, fault) = record {
+whole room text (Err TooLong) short some h = absurd h
+whole room text (Err Empty) short some h = absurd h
+whole room text (Err (Broken rule place)) short some (ls, rest, more, is, all, at, p, byte, fault) = record {
   lines = ls;
   rest = rest;
+  more = more;
+  short = short;
   written = is;
   good = all;
   line = omega arith;
@@ -185,8 +189,8 @@ unfolding judged
 meaning text tasks sections =
     let room = roomFor tasks sections in
     cond-both (ltb longestText (length text)) (Err TooLong) _ (Meaning text room) (λ e. ltb-true longestText (length text) e)
-    (λ _. cond-both (eqb (length text) 0) (Err Empty) _ (Meaning text room) (λ e. nil-from-length text (eqb-true (length text) 0 e))
-    (λ e. whole room text (linesJudged room nothingRead (linesOf text)) (eqb-false (length text) 0 e) (lines-mean room nothingRead (linesOf text) text refl)))
+    (λ within. cond-both (eqb (length text) 0) (Err Empty) _ (Meaning text room) (λ e. nil-from-length text (eqb-true (length text) 0 e))
+    (λ e. whole room text (linesJudged room nothingRead (linesOf text)) (ltb-false longestText (length text) within) (eqb-false (length text) 0 e) (lines-mean room nothingRead (linesOf text) text refl)))
 
 pub exactly : (text : List ℕ) (tasks sections : ℕ) → Exactly text (roomFor tasks sections) (judged text tasks sections)
 unfolding judged

@@ -48,6 +48,7 @@ Fault room before text Length p = Bad room before text Length p
 pub record Table (text : List ℕ) (room counts : Counts) : Type 0 where
   pub lines : List Line
   pub some : 1 ≤ length lines
+  pub short : length text ≤ longestText
   pub written : text ≡ renderAll lines
   pub good : AllGood room nothingRead lines
   pub counted : counts ≡ pastAll nothingRead lines
@@ -58,6 +59,8 @@ pub record Table (text : List ℕ) (room counts : Counts) : Type 0 where
 pub record Refused (text : List ℕ) (room : Counts) (rule : Rule) (place : Place) : Type 0 where
   pub lines : List Line
   pub rest : List ℕ
+  pub more : 1 ≤ length rest
+  pub short : length text ≤ longestText
   pub written : text ≡ renderAll lines ++ rest
   pub good : AllGood room nothingRead lines
   pub line : place .line ≡ length lines + 1

@@ -33,7 +33,8 @@ fn room_for(tasks: usize, sections: usize) -> Counts
 
 /// Judges a text that is to go into so many task records and section records: its counts, or why it is refused.
 fn check_text(text: &[u8], tasks: usize, sections: usize) -> Result<Counts, Refusal>
-    ensures { λ r. ⌜ r ≡ judged (now (text .entry)) tasks sections ⌝ }
+    ensures value { λ r. ⌜ r ≡ judged (now (text .entry)) tasks sections ⌝ }
+    ensures lines { λ r. ⌜ made r (λ c. linesJudged (roomFor tasks sections) nothingRead (linesOf (now (text .entry))) ≡ Ok c) ⌝ }
 {
     if text.len() > LONGEST_TEXT {
         return Err(Refusal::TooLong);
