@@ -13,8 +13,7 @@ use Rattle.table.specs.declared.records.SectionRecord.{SectionRecord}
 use Rattle.table.specs.Level.{deadlineOf}
 use Rattle.admission.specs.Demand.{demand, reaches, later, blocks}
 use Rattle.admission.specs.Facts.{Judgeable, Owned}
-use Rattle.admission.specs.Laws.{Fits-ever}
-use Rattle.admission.specs.Verdict.{Fits, Admitted}
+use Rattle.admission.specs.Verdict.{Fits, Admitted, FitsEver}
 use Rattle.admission.proofs.SoundFacts.{judgeable-if-sound}
 use Rattle.admission.proofs.Several.{demand-idle, demand-idle-spare}
 use Rattle.admission.proofs.Blocked.{blocking-le}
@@ -56,5 +55,5 @@ module _ (tasks : List TaskRecord) (sections : List SectionRecord) (ok : Judgeab
         )
       ]
 
-pub fits-ever : Fits-ever
+pub fits-ever : (tasks : List TaskRecord) (sections : List SectionRecord) (idle : ℕ) → Admitted tasks sections idle → FitsEver tasks sections
 fits-ever tasks sections idle ad = fits-at tasks sections (judgeable-if-sound tasks sections (ad .rules)) idle ad

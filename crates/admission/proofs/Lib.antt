@@ -10,3 +10,17 @@ pub mod Rises
 pub mod Beyond
 pub mod Same
 pub mod Settled
+pub mod Apart
+pub mod Fine
+pub mod Spelled
+pub mod Nested
+pub mod ReadSound
+pub mod Digits
+pub mod Spelling
+pub mod Spelt
+pub mod Itemed
+pub mod Forest
+pub mod Rendering
+pub mod Lengths
+pub mod Texts
+pub mod SoundRead

@@ -1,5 +1,4 @@
--- Two laws of admission. Only deadlines have to be judged: where the least instant at which the records do not fit lies, some task is
--- due. And to judge up to the idle instant is to judge for ever: admitted records fit at every instant, however far.
+-- A law of admission. Only deadlines have to be judged: where the least instant at which the records do not fit lies, some task is due.
 use mathlib.Core.Path.{_≡_}
 use mathlib.Core.Bool.{true}
 use mathlib.Core.List.{List}
@@ -8,16 +7,10 @@ use Rattle.table.specs.declared.records.TaskRecord.{TaskRecord}
 use Rattle.table.specs.declared.records.SectionRecord.{SectionRecord}
 use Rattle.admission.specs.Due.{Due}
 use Rattle.admission.specs.Sound.{sound}
-use Rattle.admission.specs.Verdict.{asked, Fits, Admitted}
+use Rattle.admission.specs.Verdict.{asked, Fits}
 
 -- more is asked for than fits, for the first time, only at a deadline
 abbrev pub Only-at-deadlines : Type 0
 Only-at-deadlines =
     (tasks : List TaskRecord) (sections : List SectionRecord) → sound tasks sections ≡ true
     → (t : ℕ) → 1 ≤ t → t < asked tasks sections t → ((u : ℕ) → 1 ≤ u → u < t → Fits tasks sections u) → Due tasks t
-
--- admitted records fit at every instant
-abbrev pub Fits-ever : Type 0
-Fits-ever =
-    (tasks : List TaskRecord) (sections : List SectionRecord) (idle : ℕ) → Admitted tasks sections idle
-    → (t : ℕ) → 1 ≤ t → Fits tasks sections t

@@ -3,6 +3,7 @@ pub mod Demand
 pub mod Due
 pub mod Facts
 pub mod Laws
+pub mod Origin
 pub mod Sound
 pub mod Stack
 pub mod Until

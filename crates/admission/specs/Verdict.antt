@@ -38,6 +38,10 @@ judged tasks sections = cond (sound tasks sections) (judgedFrom tasks sections h
 abbrev pub Fits : List TaskRecord → List SectionRecord → ℕ → Type 0
 Fits tasks sections t = asked tasks sections t ≤ t
 
+-- everything fits by every instant, however late
+abbrev pub FitsEver : List TaskRecord → List SectionRecord → Type 0
+FitsEver tasks sections = (t : ℕ) → 1 ≤ t → Fits tasks sections t
+
 -- t is the idle instant
 pub record Idle (tasks : List TaskRecord) (t : ℕ) : Type 0 where
   pub positive : 1 ≤ t

@@ -5,7 +5,7 @@ ghost use Rattle.std.specs.Results.{Cases};
 ghost use Rattle.std.specs.Vec.{made};
 ghost use Rattle.std.specs.declared.result.Result.the-variants.{Ok, Err};
 ghost use Rattle.admission.specs.Sound.{sound};
-ghost use Rattle.admission.specs.Verdict.{judged, Admitted, Refused, Verdict};
+ghost use Rattle.admission.specs.Verdict.{judged, Admitted, Refused, Verdict, FitsEver};
 use crate::check::sound_records;
 use crate::idle::HORIZON;
 use crate::idle::idle_instant;
@@ -44,6 +44,7 @@ fn judge_records(tasks: &[TaskRecord], sections: &[SectionRecord]) -> Result<u32
 
 /// Admits records that break no rule and fit at every instant up to their idle instant, and hands out the pass that says so.
 ///
+/// Judging stops at the idle instant; the contract says what that is good for: admitted records fit at every instant, however late.
 /// Any other records are refused: by the rules, by the least instant at which they do not fit, or because the horizon comes before
 /// the idle instant.
 pub fn admit<'a>(
@@ -52,6 +53,7 @@ pub fn admit<'a>(
 ) -> Result<Pass<'a>, Refusal>
     ensures value { λ r. ⌜ Cases r (λ p. judged (now (tasks .entry)) (now (sections .entry)) ≡ Ok (p .idle)) (λ e. judged (now (tasks .entry)) (now (sections .entry)) ≡ Err e) ⌝ }
     ensures verdict { λ r. ⌜ Cases r (λ p. Admitted (now (tasks .entry)) (now (sections .entry)) (p .idle)) (λ e. Refused (now (tasks .entry)) (now (sections .entry)) e) ⌝ }
+    ensures ever { λ r. ⌜ made r (λ p. FitsEver (now (tasks .entry)) (now (sections .entry))) ⌝ }
     ensures records { λ r. ⌜ made r (λ p. (now (p .tasks) ≡ now (tasks .entry)) × (now (p .sections) ≡ now (sections .entry))) ⌝ }
 {
     match judge_records(tasks, sections) {

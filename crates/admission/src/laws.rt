@@ -1,16 +1,16 @@
-//! What is proved above the code: the laws that admission rests on. Each function here stands for a law, which its contract states.
-ghost use Rattle.admission.specs.Laws.{Only-at-deadlines, Fits-ever};
+//! What is proved above the code: laws that reading and admission rest on. Each function here does nothing; its contract is the law.
+ghost use Rattle.admission.specs.Laws.{Only-at-deadlines};
+ghost use Rattle.admission.specs.Origin.{Read-is-sound, Sound-is-read};
 
 /// Only deadlines have to be judged: the first instant by which more is asked for than fits is a deadline of some task.
-pub fn deadlines_suffice() -> bool
+pub fn deadlines_suffice()
     ensures { λ _. ⌜ Only-at-deadlines ⌝ }
-{
-    true
-}
+{}
 
-/// To judge up to the idle instant is enough: by every instant, however far, no more is asked for of admitted records than fits.
-pub fn idle_suffices() -> bool
-    ensures { λ _. ⌜ Fits-ever ⌝ }
-{
-    true
-}
+/// Records that break no rule are exactly those that some text reads to, but for the names of tasks.
+///
+/// The records of every table that is read break no rule; and of any records that break none there is a text that reads to just them.
+pub fn sound_is_readable()
+    ensures read { λ _. ⌜ Read-is-sound ⌝ }
+    ensures written { λ _. ⌜ Sound-is-read ⌝ }
+{}

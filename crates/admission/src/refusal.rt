@@ -1,6 +1,8 @@
 //! Why records are not admitted.
 ghost use mathlib.Core.Path.{_≡_};
-ghost use Rattle.admission.specs.Answer.{refusalNumber};
+ghost use Rattle.admission.specs.Answer.{refusalNumber, returned};
+ghost use Rattle.std.specs.declared.option.Option.the-variants.{Some};
+ghost use Rattle.table.specs.Answer.{spaced};
 use std::fmt;
 
 /// A refusal of `admit`.
@@ -29,6 +31,8 @@ impl Refusal {
 
 /// The numbers that a refusal returns, one space apart: its own, then the instant and what is asked for by then where it has them.
 pub impl fmt::Display for Refusal as RefusalDisplay {
+    ghost shown = { λ r. Some (spaced (returned r)) };
+
     fn fmt<W: fmt::Write>(&self, f: &mut fmt::Formatter<W>) -> fmt::Result {
         let number = self.number();
         match *self {

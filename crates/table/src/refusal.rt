@@ -1,6 +1,7 @@
 //! Why a text is not a table.
 ghost use mathlib.Core.Path.{_≡_};
-ghost use Rattle.table.specs.Answer.{ruleNumber, refusalNumber};
+ghost use Rattle.table.specs.Answer.{ruleNumber, refusalNumber, returned, spaced};
+ghost use Rattle.std.specs.declared.option.Option.the-variants.{Some};
 use std::fmt;
 
 /// A rule that each line of a text has to keep.
@@ -72,6 +73,8 @@ impl Refusal {
 
 /// The numbers that a refusal returns, one space apart: its own, then line and byte where it has a place.
 pub impl fmt::Display for Refusal as RefusalDisplay {
+    ghost shown = { λ r. Some (spaced (returned r)) };
+
     fn fmt<W: fmt::Write>(&self, f: &mut fmt::Formatter<W>) -> fmt::Result {
         let number = self.number();
         match self {
