@@ -10,31 +10,11 @@ use std::io::BufRead;
 use std::io::BufReader;
 use table::read::read;
 use table::records::SectionRecord;
-use table::records::Span;
 use table::records::TaskRecord;
 use table::refusal::RefusalDisplay;
 
 #[cfg(test)]
 mod tests;
-
-const NO_SPAN: Span = Span { first: 0, count: 0 };
-
-const NO_TASK: TaskRecord = TaskRecord {
-    name: NO_SPAN,
-    deadline: 0,
-    period: 0,
-    cost: 0,
-    sections: NO_SPAN,
-};
-
-const NO_SECTION: SectionRecord = SectionRecord {
-    task: 0,
-    around: None,
-    small: 0,
-    capital: 0,
-    length: 0,
-    level: None,
-};
 
 /// What a byte of a case says after those before it.
 #[derive(Clone, Copy)]
@@ -150,8 +130,8 @@ fn try_records(
 
 /// One case: so many records are lent for a text.
 fn try_text(rt: &LibcRuntime, tasks: usize, sections: usize, text: &[u8]) -> Result<(), AnyError> {
-    let mut task_records = [NO_TASK; 40];
-    let mut section_records = [NO_SECTION; 70];
+    let mut task_records = [TaskRecord::EMPTY; 40];
+    let mut section_records = [SectionRecord::EMPTY; 70];
     let (k, m) = (tasks.min(40), sections.min(70));
     try_records(
         rt,

@@ -1,15 +1,16 @@
 //! A few answers that are worked out by hand.
-use super::NO_SECTION;
-use super::NO_TASK;
 use admission::admit::admit;
 use admission::refusal::Refusal as Unfit;
 use admission::refusal::RefusalDebug as UnfitDebug;
 use admission::refusal::RefusalPartialEq as UnfitPartialEq;
 use std::test::*;
+use table::limits::MOST_SECTIONS;
+use table::limits::MOST_TASKS;
 use table::read::read;
 use table::records::Counts;
 use table::records::CountsDebug;
 use table::records::CountsPartialEq;
+use table::records::SectionRecord;
 use table::records::Span;
 use table::records::TaskRecord;
 use table::refusal::Place;
@@ -20,8 +21,8 @@ use table::refusal::Rule;
 
 /// What reading answers with room for every table.
 fn answer(text: &[u8]) -> Result<Counts, Refusal> {
-    let mut tasks = [NO_TASK; 32];
-    let mut sections = [NO_SECTION; 64];
+    let mut tasks = [TaskRecord::EMPTY; MOST_TASKS];
+    let mut sections = [SectionRecord::EMPTY; MOST_SECTIONS];
     read(text, &mut tasks, &mut sections)
 }
 
@@ -63,8 +64,8 @@ fn each_refusal_has_its_place() -> Result<(), Fail> {
 
 /// What admission says of a text that is read, if it refuses it.
 fn unfit(text: &[u8]) -> Option<Unfit> {
-    let mut tasks = [NO_TASK; 32];
-    let mut sections = [NO_SECTION; 64];
+    let mut tasks = [TaskRecord::EMPTY; MOST_TASKS];
+    let mut sections = [SectionRecord::EMPTY; MOST_SECTIONS];
     match read(text, &mut tasks, &mut sections) {
         Ok(counts) => {
             let (k, m) = (counts.tasks, counts.sections);
@@ -86,7 +87,7 @@ fn a_section_can_be_too_long() -> Result<(), Fail> {
 
 #[test]
 fn rules_of_records_come_first() -> Result<(), Fail> {
-    let none = Span { first: 0, count: 0 };
+    let none = Span::EMPTY;
     let task = TaskRecord {
         name: none,
         deadline: 3,

@@ -5,31 +5,12 @@ use std::io;
 use std::io::Read;
 use std::str::from_utf8;
 use table::limits::LONGEST_TEXT;
+use table::limits::MOST_SECTIONS;
+use table::limits::MOST_TASKS;
 use table::read::read;
 use table::records::SectionRecord;
-use table::records::Span;
 use table::records::TaskRecord;
 use table::refusal::RefusalDisplay;
-
-/// A record that nothing has been read into.
-const NO_SPAN: Span = Span { first: 0, count: 0 };
-
-const NO_TASK: TaskRecord = TaskRecord {
-    name: NO_SPAN,
-    deadline: 0,
-    period: 0,
-    cost: 0,
-    sections: NO_SPAN,
-};
-
-const NO_SECTION: SectionRecord = SectionRecord {
-    task: 0,
-    around: None,
-    small: 0,
-    capital: 0,
-    length: 0,
-    level: None,
-};
 
 /// The name of the task with a number, as it stands in the text.
 fn name<'a>(text: &'a [u8], tasks: &[TaskRecord], task: usize) -> &'a str {
@@ -81,8 +62,8 @@ fn run(rt: &LibcRuntime) -> io::Result<()> {
     rt.stdin()
         .take(LONGEST_TEXT as u64 + 1)
         .read_to_end(&mut text)?;
-    let mut tasks = [NO_TASK; 32];
-    let mut sections = [NO_SECTION; 64];
+    let mut tasks = [TaskRecord::EMPTY; MOST_TASKS];
+    let mut sections = [SectionRecord::EMPTY; MOST_SECTIONS];
     match read(text.as_slice(), &mut tasks, &mut sections) {
         Ok(counts) => {
             let (k, m) = (counts.tasks, counts.sections);

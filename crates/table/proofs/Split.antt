@@ -16,10 +16,6 @@ pub line-some : (t : List ℕ) → 0 < length t → 0 < lineLength t
 line-some [] h = absurd (omega arith)
 line-some (b ∷ t) h = cond-both (eqb b 10) 1 (1 + lineLength t) (λ n. 0 < n) (λ _. omega arith) (λ _. omega arith)
 
-pub line-short : (t : List ℕ) → lineLength t ≤ length t
-line-short [] = omega arith
-line-short (b ∷ t) = cond-both (eqb b 10) 1 (1 + lineLength t) (λ n. n ≤ suc (length t)) (λ _. omega arith) (λ _. omega (arith, line-short t))
-
 -- the first line and the others, where the byte before them begins the first
 first-line : (b : ℕ) (t : List ℕ) → startLine b (linesOf t) ≡ (b ∷ take (lineLength t) t) ∷ linesOf (drop (lineLength t) t) → linesOf (b ∷ t) ≡ take (lineLength (b ∷ t)) (b ∷ t) ∷ linesOf (drop (lineLength (b ∷ t)) (b ∷ t))
 first-line b t longer =

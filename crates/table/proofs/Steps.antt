@@ -69,9 +69,6 @@ digit-from b e = let p = and-parts _ _ e in (leb-true 48 b (p .0), leb-true b 57
 digit-is : (b : ℕ) → Digit b → isDigit b ≡ true
 digit-is b h = grind (arith, tells)
 
-small-is : (b : ℕ) → Small b → isSmall b ≡ true
-small-is b h = grind (arith, tells)
-
 letter-is : (b : ℕ) → Letter b → isLetter b ≡ true
 letter-is b h = grind (arith, tells)
 

@@ -13,9 +13,6 @@ pub record Sofar {X : Type 0} (entry : List X) (n : ℕ) (all out : List X) (i :
   pub place : i + length rest ≡ n + length all
   pub back : drop (n + length all) out ≡ drop (n + length all) entry
 
-pub started : {X : Type 0} (entry : List X) (n : ℕ) (all : List X) → Sofar entry n all entry n all
-started entry n all = record { front = refl; place = refl; back = refl }
-
 pub wrote : {X : Type 0} (entry : List X) (n : ℕ) (all out : List X) (i : ℕ) (x : X) (rest : List X) → i < length out → Sofar entry n all out i (x ∷ rest) → Sofar entry n all (set out i x) (i + 1) rest
 wrote entry n all out i x rest room h = record {
   front = ap (λ l. l ++ rest) (take-more-set out i x room) ∙ append-assoc (take i out) (x ∷ []) rest ∙ h .front;
@@ -30,11 +27,6 @@ finished entry n all out i rest none h =
     let front : take i out ≡ take n entry ++ all = sym (append-nil (take i out)) ∙ ap (λ l. take i out ++ l) (sym none) ∙ h .front in
     sym (take-append-drop i out) ∙ ap (λ l. l ++ drop i out) front ∙ ap (λ k. (take n entry ++ all) ++ drop k out) at
     ∙ ap (λ l. (take n entry ++ all) ++ l) (h .back) ∙ append-assoc (take n entry) all _
-
--- the same at equal parts
-pub moved : {X : Type 0} (entry : List X) (n : ℕ) (all out out′ : List X) (i i′ : ℕ) (rest rest′ : List X) → out′ ≡ out → i′ ≡ i → rest′ ≡ rest → Sofar entry n all out i rest → Sofar entry n all out′ i′ rest′
-moved entry n all out out′ i i′ rest rest′ p q r h =
-    subst (λ o. Sofar entry n all o i′ rest′) (sym p) (subst (λ k. Sofar entry n all out k rest′) (sym q) (subst (λ l. Sofar entry n all out i l) (sym r) h))
 
 -- several records are written at once
 pub wrote-all : {X : Type 0} (entry : List X) (n : ℕ) (all out : List X) (i : ℕ) (new rest out′ : List X) → i + length new ≤ length out → out′ ≡ written i new out → Sofar entry n all out i (new ++ rest) → Sofar entry n all out′ (i + length new) rest

@@ -32,12 +32,12 @@ lettersFrom small capital (Close ∷ is) = record { small = small; capital = cap
 
 -- a section without its level
 abbrev pub sectionOf : ℕ → Option ℕ → Letters → ℕ → SectionRecord
-sectionOf task around letters length = record {
+sectionOf task around letters ticks = record {
   task = task;
   around = around;
   small = letters .small;
   capital = letters .capital;
-  length = length;
+  length = ticks;
   level = None;
 }
 

@@ -15,6 +15,7 @@ ghost use Rattle.table.specs.Record.{lettersFrom, sectionOf, sectionsIn, taskO
 use crate::check::line_end;
 use crate::head::head_of;
 use crate::levels::section_level;
+use crate::limits::LETTERS;
 use crate::line::Cursor;
 use crate::line::Item;
 use crate::nest::Nest;
@@ -48,8 +49,8 @@ fn letters_at(line: &[u8], place: usize) -> Letters
 }
 
 /// A section's record without its level.
-fn section_of(task: usize, around: Option<u32>, letters: Letters, length: u32) -> SectionRecord
-    ensures { λ r. ⌜ r ≡ sectionOf task around letters length ⌝ }
+fn section_of(task: usize, around: Option<u32>, letters: Letters, ticks: u32) -> SectionRecord
+    ensures { λ r. ⌜ r ≡ sectionOf task around letters ticks ⌝ }
 {
     let around = match around {
         Some(number) => Some(number as usize),
@@ -60,7 +61,7 @@ fn section_of(task: usize, around: Option<u32>, letters: Letters, length: u32) -
         around,
         small: letters.small,
         capital: letters.capital,
-        length,
+        length: ticks,
         level: None,
     }
 }
@@ -137,7 +138,11 @@ pub(crate) fn write_lines(text: &[u8], tasks: &mut [TaskRecord], sections: &mut 
 }
 
 /// Fills in the levels of the first so many sections, by the levels of the letters.
-pub(crate) fn write_levels(levels: &[Option<u32>; 26], sections: &mut [SectionRecord], count: usize)
+pub(crate) fn write_levels(
+    levels: &[Option<u32>; LETTERS],
+    sections: &mut [SectionRecord],
+    count: usize,
+)
     requires { ⌜ count ≤ length (now sections) ⌝ }
     ensures { λ _. ⌜ now (sections .exit) ≡ map (leveled (now (levels .entry))) (take count (now (sections .entry))) ++ drop count (now (sections .entry)) ⌝ }
 {

@@ -1,10 +1,10 @@
 //! Levels: how urgent the most urgent task is that a resource, or a section, can hold up.
 ghost use mathlib.Core.Path.{_≡_};
-ghost use Prim.Native.Nat.{ℕ, _+_, _<_, _≤_};
-ghost use lib.ListN.{length, getD, drop};
+ghost use Prim.Native.Nat.{_<_};
 ghost use Rattle.std.specs.declared.option.Option.the-variants.{Some, None};
 ghost use Rattle.table.specs.Limits.{resources};
 ghost use Rattle.table.specs.Level.{member, names, deadlineOf, lesser, letterLevel, letterLevels, leastLevel};
+use crate::limits::LETTERS;
 use crate::limits::RESOURCES;
 use crate::records::SectionRecord;
 use crate::records::TaskRecord;
@@ -62,10 +62,10 @@ fn letter_level(tasks: &[TaskRecord], sections: &[SectionRecord], resource: u32)
 }
 
 /// The level of each letter, `a` first.
-pub fn letter_levels(tasks: &[TaskRecord], sections: &[SectionRecord]) -> [Option<u32>; 26]
+pub fn letter_levels(tasks: &[TaskRecord], sections: &[SectionRecord]) -> [Option<u32>; LETTERS]
     ensures { λ r. ⌜ r ≡ letterLevels (now (tasks .entry)) (now (sections .entry)) ⌝ }
 {
-    let mut levels = [None; 26];
+    let mut levels = [None; LETTERS];
     for resource in 0..RESOURCES {
         levels[resource as usize] = letter_level(tasks, sections, resource);
     }
@@ -73,7 +73,7 @@ pub fn letter_levels(tasks: &[TaskRecord], sections: &[SectionRecord]) -> [Optio
 }
 
 /// The least of the levels of the resources that a section names itself; none for a section without letters.
-pub fn section_level(levels: &[Option<u32>; 26], section: &SectionRecord) -> Option<u32>
+pub fn section_level(levels: &[Option<u32>; LETTERS], section: &SectionRecord) -> Option<u32>
     ensures { λ r. ⌜ r ≡ leastLevel (now (levels .entry)) 0 (now (section .entry)) ⌝ }
 {
     let mut least = None;

@@ -20,3 +20,6 @@ pub const DEEPEST: usize = 8;
 
 /// Resources, one for each letter.
 pub const RESOURCES: u32 = 26;
+
+/// The same, as the length of an array.
+pub const LETTERS: usize = 26;

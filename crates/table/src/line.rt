@@ -1,4 +1,4 @@
-//! The parts of a well-formed line: its name, its numbers, and the items of its sections.
+//! The parts of a well-formed line: its numbers, and the items of its sections.
 //!
 //! None of these functions relies on the line's form; on other lines they find what their definitions say.
 ghost use mathlib.Core.Path.{_≡_};

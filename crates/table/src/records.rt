@@ -10,6 +10,9 @@ pub struct Span {
 }
 
 impl Span {
+    /// No place at all.
+    pub const EMPTY: Span = Span { first: 0, count: 0 };
+
     /// The bytes of a text that this span counts; none where it does not lie in the text.
     pub fn part_of<'a>(&self, text: &'a [u8]) -> &'a [u8]
         ensures { λ r. ⌜ now r ≡ partOf (now (self .entry) .first) (now (self .entry) .count) (now (text .entry)) ⌝ }
@@ -32,6 +35,17 @@ pub struct TaskRecord {
     pub sections: Span,
 }
 
+impl TaskRecord {
+    /// A record that nothing has been read into.
+    pub const EMPTY: TaskRecord = TaskRecord {
+        name: Span::EMPTY,
+        deadline: 0,
+        period: 0,
+        cost: 0,
+        sections: Span::EMPTY,
+    };
+}
+
 /// A critical section: its task, the section right around it, the resources that it names itself, its length and its level.
 ///
 /// Resource `a` is bit 0 of a set and `z` bit 25. `small` has those that are named by a small letter, `capital` those by a capital.
@@ -43,6 +57,18 @@ pub struct SectionRecord {
     pub capital: u32,
     pub length: u32,
     pub level: Option<u32>,
+}
+
+impl SectionRecord {
+    /// A record that nothing has been read into.
+    pub const EMPTY: SectionRecord = SectionRecord {
+        task: 0,
+        around: None,
+        small: 0,
+        capital: 0,
+        length: 0,
+        level: None,
+    };
 }
 
 /// How many tasks and sections there are, or may be.
