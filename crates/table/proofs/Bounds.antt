@@ -1,5 +1,4 @@
 -- Faults lie in their line.
-use mathlib.Core.Path.{_≡_, refl, sym, ap, subst, _∙_}
 use mathlib.Core.List.{List, [], _∷_}
 use mathlib.Core.Bool.{Bool, true, false, cond, _&&_}
 use Prim.Native.Nat.{ℕ, suc, _+_, _-_, _≤_, _<_}
@@ -8,7 +7,6 @@ use lib.Bits.{bitAnd, bitOr}
 use lib.Dec.{leb, ltb, eqb}
 use lib.ListN.{length, drop}
 use Rattle.std.specs.shelf.Lists.{All}
-use Rattle.std.proofs.shelf.Elements.{all-weaker}
 use Rattle.std.proofs.shelf.Lists.{length-drop}
 use Rattle.std.proofs.shelf.Tests.{cond-both}
 use Rattle.std.specs.Options.{valueOr}
@@ -20,7 +18,6 @@ use Rattle.table.specs.declared.refusal.Rule.{Rule}
 use Rattle.table.specs.declared.refusal.Rule.the-variants.{Form, Number, Times, Tasks, Sections, Repeated, Length}
 use Rattle.table.specs.declared.form.State.{State}
 use Rattle.table.specs.declared.form.Move.the-variants.{Refuse, Finish, Go}
-use Rattle.table.specs.declared.form.Move.{Move}
 use Rattle.table.specs.declared.line.Numeral.{Numeral}
 use Rattle.table.specs.declared.line.Item.{Item}
 use Rattle.table.specs.declared.line.Item.the-variants.{Open, Named, Close}
@@ -30,7 +27,7 @@ use Rattle.table.specs.Byte.{isDigit, isSmall, isCapital}
 use Rattle.table.specs.Form.{stepped, brokenAt, formFault}
 use Rattle.table.specs.Number.{numeralAt, behind, ticksOf}
 use Rattle.table.specs.Head.{nameLength, deadlineAt, periodAt, costAt, bodyAt, headOf, lineItems}
-use Rattle.table.specs.Item.{markAt, joined, items, itemsFrom}
+use Rattle.table.specs.Item.{markAt, joined, items}
 use Rattle.table.specs.Nest.{top, outer, renewed}
 use Rattle.table.specs.Rule.{orElse, unreadable, itemFault, headFault, numberFault, timesFault, tasksFault, sectionFault, named, repeatFault, lengthFault}
 use Rattle.table.specs.Judged.{unless, lineJudged}

@@ -1,8 +1,8 @@
 -- The counts that a text is judged to have are those of its records.
-use mathlib.Core.Path.{_≡_, refl, sym, ap, subst, _∙_}
+use mathlib.Core.Path.{_≡_, sym, ap, _∙_}
 use mathlib.Core.List.{List, [], _∷_, _++_, map}
 use mathlib.Core.Bool.{Bool, true, false, cond}
-use Prim.Native.Nat.{ℕ, _+_, _≤_, _<_, max}
+use Prim.Native.Nat.{ℕ, _+_, _≤_, max}
 use native.Mathlib.Nat.{zero-add}
 use native.Mathlib.Omega.{arith}
 use lib.Dec.{ltb, eqb}
@@ -16,16 +16,14 @@ use Rattle.std.specs.declared.result.Result.the-variants.{Ok, Err}
 use Rattle.table.specs.declared.refusal.Refusal.{Refusal}
 use Rattle.table.specs.declared.records.Counts.{Counts}
 use Rattle.table.specs.declared.records.SectionRecord.{SectionRecord}
-use Rattle.table.specs.declared.records.TaskRecord.{TaskRecord}
 use Rattle.table.specs.Head.{lineItems}
 use Rattle.table.specs.Rule.{opens}
-use Rattle.table.specs.Level.{letterLevels}
 use Rattle.table.specs.Lines.{linesOf}
 use Rattle.table.specs.Judged.{linesJudged, judged, roomFor, nothingRead}
 use Rattle.table.specs.Limits.{longestText}
-use Rattle.table.specs.Record.{sectionsIn, taskOf, tasksOf, sectionsOf, leveled, written}
+use Rattle.table.specs.Record.{sectionsIn, tasksOf, sectionsOf, leveled, written}
 use Rattle.table.proofs.Rooms.{opens-within}
-use Rattle.table.proofs.Kept.{Kept, accepted-more, task-room, afterLine}
+use Rattle.table.proofs.Kept.{accepted-more, task-room, afterLine}
 use Rattle.table.proofs.Writes.{length-sectionsIn}
 
 pub record Counted (room before counts : Counts) (p : ℕ) (lines : List (List ℕ)) : Type 0 where

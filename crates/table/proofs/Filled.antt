@@ -5,7 +5,7 @@ use Prim.Native.Nat.{ℕ, _+_, _<_, _≤_}
 use native.Mathlib.Omega.{arith}
 use lib.ListN.{length, take, set}
 use Rattle.std.specs.Iters.{counting}
-use Rattle.std.proofs.shelf.Lists.{take-more-set, take-all, length-set}
+use Rattle.std.proofs.shelf.Lists.{take-more-set, take-all}
 use Rattle.std.proofs.shelf.Counted.{map-counting-more}
 
 -- the first i places hold the values of f

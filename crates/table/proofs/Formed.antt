@@ -1,17 +1,14 @@
 -- The automaton's answer is the grammar's.
 use mathlib.Core.Path.{_≡_, refl, sym, ap, subst, _∙_}
 use mathlib.Core.List.{List, [], _∷_, _++_, append-nil}
-use mathlib.Core.Logic.{_⊎_, inl, inr}
 use Prim.Native.Nat.{ℕ, zero, suc, _+_, _≤_, _<_}
-use native.Mathlib.Nat.{add-zero, zero-add}
 use native.Mathlib.Numerals.{add-one}
 use native.Mathlib.Omega.{arith}
 use lib.ListN.{length, take, drop, take-append-drop}
-use Rattle.std.proofs.shelf.Lists.{length-take-le}
 use Rattle.std.specs.declared.option.Option.{Option}
 use Rattle.std.specs.declared.option.Option.the-variants.{Some, None}
-use Rattle.table.specs.Grammar.{Digit, Small, Letter, Byte, Numeral, Sections, none, section, Line, bytes, numeral, letters, sectionsText, render}
-use Rattle.table.specs.Broken.{Begins, BrokenAt}
+use Rattle.table.specs.Grammar.{Digit, Letter, Byte, Numeral, Sections, none, section, Line, bytes, letters, sectionsText, render}
+use Rattle.table.specs.Broken.{BrokenAt}
 use Rattle.table.specs.declared.form.Field.{Field}
 use Rattle.table.specs.declared.form.Field.the-variants.{Deadline, Period, Cost}
 use Rattle.table.specs.declared.form.State.{State}
@@ -19,7 +16,7 @@ use Rattle.table.specs.declared.form.State.the-variants.{Name, Colon, Key, Equ
 use Rattle.table.specs.declared.form.Move.{Move}
 use Rattle.table.specs.declared.form.Move.the-variants.{Refuse, Finish, Go}
 use Rattle.table.specs.Form.{key, stepped, brokenAt, formFault}
-use Rattle.table.proofs.Steps.{Lit, Numbered, Stack, tail, AfterClosed, AfterBody, AfterField, AtKey, Rest, Live, Back, back, Fore, fore}
+use Rattle.table.proofs.Steps.{Lit, Numbered, Stack, tail, AfterClosed, AfterBody, AfterField, Rest, Live, Back, back, Fore, fore}
 
 one : Byte Digit
 one = record { byte = 49; is = (omega arith, omega arith) }

@@ -1,8 +1,8 @@
 -- One line more is written.
-use mathlib.Core.Path.{_≡_, refl, sym, ap, subst, _∙_}
+use mathlib.Core.Path.{_≡_, sym, ap, subst, _∙_}
 use mathlib.Core.List.{List, [], _∷_, _++_}
-use mathlib.Core.Bool.{Bool, true, false}
-use Prim.Native.Nat.{ℕ, _+_, _-_, _≤_, _<_, max}
+use mathlib.Core.Bool.{true}
+use Prim.Native.Nat.{ℕ, _+_, _-_, _≤_, _<_}
 use native.Mathlib.Omega.{arith}
 use lib.ListN.{length, take, drop, set}
 use Rattle.std.proofs.shelf.Lists.{length-take, length-drop, drop-all}
@@ -18,7 +18,7 @@ use Rattle.table.specs.Record.{sectionsIn, taskOf, tasksOf, sectionsOf, writte
 use Rattle.table.proofs.Split.{lines-more}
 use Rattle.table.proofs.Rooms.{shallow-if, opens-within}
 use Rattle.table.proofs.Kept.{Kept, accepted-more, task-room, afterLine}
-use Rattle.table.proofs.Written.{Sofar, wrote, wrote-all, finished}
+use Rattle.table.proofs.Written.{Sofar, wrote, wrote-all}
 use Rattle.table.proofs.Writes.{length-sectionsIn}
 
 -- the counts so far

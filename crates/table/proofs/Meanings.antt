@@ -1,12 +1,11 @@
 -- What a text's verdict means, from what the verdict on each of its lines means.
 use mathlib.Core.Path.{_≡_, refl, sym, ap, subst, _∙_}
 use mathlib.Core.List.{List, [], _∷_, _++_, map, append-assoc}
-use mathlib.Core.Bool.{Bool, true, false, cond}
-use mathlib.Core.Logic.{_⊎_, inl, inr, ⊎-elim}
-use Prim.Native.Nat.{ℕ, zero, suc, _+_, _≤_, _<_}
+use mathlib.Core.Bool.{true}
+use Prim.Native.Nat.{ℕ, _+_, _≤_, _<_}
 use native.Mathlib.Omega.{arith}
 use lib.Dec.{ltb, eqb}
-use lib.ListN.{length, take, drop}
+use lib.ListN.{length}
 use Rattle.std.proofs.shelf.Tests.{cond-false, cond-both, ltb-true, ltb-false, le-ltb, eqb-true, eqb-false, ne-eqb}
 use Rattle.std.proofs.shelf.Lists.{nil-from-length}
 use Rattle.std.specs.Results.{isOk}
@@ -23,16 +22,15 @@ use Rattle.table.specs.declared.check.Fault.{Fault as LineFault}
 use Rattle.table.specs.declared.form.State.the-variants.{Name}
 use Rattle.table.specs.Limits.{longestText}
 use Rattle.table.specs.Form.{formFault}
-use Rattle.table.specs.Lines.{linesOf, lineLength}
+use Rattle.table.specs.Lines.{linesOf}
 use Rattle.table.specs.Head.{lineItems}
 use Rattle.table.specs.Rule.{opens}
-use Rattle.table.specs.Grammar.{Numeral, Sections, none, section, Line, render, renderAll}
-use Rattle.table.specs.Breach.{Breaks, Good, AllGood, past, pastAll, count}
-use Rattle.table.specs.Broken.{BrokenAt}
+use Rattle.table.specs.Grammar.{none, Line, render, renderAll}
+use Rattle.table.specs.Breach.{Good, AllGood, past, pastAll, count}
 use Rattle.table.specs.Meant.{taskMeant, tasksMeant, sectionsMeant, allSectionsMeant}
 use Rattle.table.specs.Judged.{unless, lineJudged, linesJudged, judged, roomFor, nothingRead}
-use Rattle.table.specs.Record.{tasksOf, sectionsOf, textTasks, bareSections}
-use Rattle.table.specs.Meaning.{First, Bad, Fault, Table, Refused, Meaning, Exactly}
+use Rattle.table.specs.Record.{tasksOf, sectionsOf}
+use Rattle.table.specs.Meaning.{Bad, Fault, Meaning, Exactly}
 use Rattle.table.proofs.Turns.{go-on}
 use Rattle.table.proofs.Formed.{Formed, formed}
 use Rattle.table.proofs.Rendered.{one-line, first-formed}

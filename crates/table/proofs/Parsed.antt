@@ -1,13 +1,13 @@
 -- The head of a written line, found in its text.
-use mathlib.Core.Path.{_≡_, refl, sym, ap, subst, _∙_}
-use mathlib.Core.List.{List, [], _∷_, _++_}
-use mathlib.Core.Bool.{Bool, true, false, cond, _&&_}
+use mathlib.Core.Path.{_≡_, refl, sym, ap, _∙_}
+use mathlib.Core.List.{List, [], _∷_}
+use mathlib.Core.Bool.{Bool, true, false}
 use mathlib.Core.Logic.{_⊎_, inl, inr, ⊎-elim}
-use Prim.Native.Nat.{ℕ, suc, _+_, _*_, _≤_, _<_}
+use Prim.Native.Nat.{ℕ, suc, _+_, _*_}
 use native.Mathlib.Numerals.{one-add}
 use native.Mathlib.Omega.{arith}
-use lib.Dec.{eqb, ltb, leb}
-use lib.ListN.{length, take, drop, getD}
+use lib.Dec.{eqb}
+use lib.ListN.{length, drop}
 use Rattle.std.proofs.shelf.Lists.{drop-drop}
 use Rattle.std.proofs.shelf.Tests.{cond-true, cond-false, cases-bool, and-parts, ltb-true, leb-true}
 use Rattle.std.proofs.shelf.Ways.{tells}
@@ -15,8 +15,8 @@ use Rattle.std.specs.declared.option.Option.{Option}
 use Rattle.std.specs.declared.option.Option.the-variants.{Some, None}
 use Rattle.table.specs.declared.line.Numeral.{Numeral as Read}
 use Rattle.table.specs.Limits.{largest}
-use Rattle.table.specs.Byte.{isDigit, isSmall}
-use Rattle.table.specs.Number.{digitRun, decimal, allowed, valueOf, numeralAt, behind, ticksOf}
+use Rattle.table.specs.Byte.{isDigit}
+use Rattle.table.specs.Number.{digitRun, allowed, valueOf, numeralAt, behind, ticksOf}
 use Rattle.table.specs.Head.{nameLength, deadlineAt, periodAt, costAt, bodyAt, headOf}
 use Rattle.table.specs.Grammar.{Digit, Small, Letter, Byte, Numeral, Sections, none, section, Line, bytes, numeral, letters, sectionsText, render}
 use Rattle.table.specs.Breach.{width, value, Fair, deadlinePlace, periodPlace, costPlace, sectionsPlace}

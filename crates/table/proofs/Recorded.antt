@@ -1,33 +1,29 @@
 -- The records of a written line are those that it stands for.
-use mathlib.Core.Path.{_≡_, refl, sym, ap, subst, _∙_}
+use mathlib.Core.Path.{_≡_, refl, sym, ap, _∙_}
 use mathlib.Core.List.{List, [], _∷_, _++_, append-assoc, append-nil}
 use mathlib.Core.Bool.{Bool, true, false, cond, not}
-use mathlib.Core.Logic.{_⊎_, inl, inr, ⊎-elim}
-use Prim.Native.Nat.{ℕ, suc, _+_, _^_, _≤_, _<_}
+use Prim.Native.Nat.{ℕ, _+_, _^_}
 use native.Mathlib.Omega.{arith}
 use lib.Bits.{bitOr}
 use lib.ListN.{length}
-use Rattle.std.specs.declared.option.Option.{Option}
 use Rattle.std.specs.declared.option.Option.the-variants.{Some, None}
 use Rattle.table.specs.declared.line.Item.{Item}
 use Rattle.table.specs.declared.line.Item.the-variants.{Open, Named, Close}
 use Rattle.table.specs.declared.fill.Letters.{Letters}
-use Rattle.table.specs.declared.records.Span.{Span}
 use Rattle.table.specs.declared.records.TaskRecord.{TaskRecord}
-use Rattle.table.specs.declared.records.SectionRecord.{SectionRecord}
 use Rattle.table.specs.Byte.{isSmall}
 use Rattle.table.specs.Number.{ticksOf}
-use Rattle.table.specs.Nest.{top, outer}
+use Rattle.table.specs.Nest.{top}
 use Rattle.table.specs.Head.{headOf, lineItems}
 use Rattle.table.specs.Rule.{opens}
-use Rattle.table.specs.Grammar.{Letter, Byte, Numeral, Sections, none, section, Line, render}
+use Rattle.table.specs.Grammar.{Letter, Byte, Sections, none, section, Line, render}
 use Rattle.table.specs.Breach.{value, resource, sectionsPlace, count}
 use Rattle.table.specs.Record.{lettersFrom, sectionOf, sectionsIn, taskOf}
 use Rattle.table.specs.Meant.{smallSet, capitalSet, sectionMeant, sectionsMeant, taskMeant}
 use Rattle.table.proofs.Parsed.{read, fair-ticks, name-length}
 use Rattle.table.proofs.Sectioned.{opens-line}
 use Rattle.table.proofs.Timed.{FairAll, AllFair, ticks-deadline, ticks-period, ticks-cost}
-use Rattle.table.proofs.Spotted.{mark, letterItems, lettersAt, insideAt, afterAt, forestItems, items-line}
+use Rattle.table.proofs.Spotted.{letterItems, lettersAt, insideAt, afterAt, forestItems, items-line}
 
 abbrev pair : ℕ → ℕ → Letters
 pair s c = record { small = s; capital = c }

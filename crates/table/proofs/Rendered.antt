@@ -1,26 +1,23 @@
 -- A written line is one line of its text; and the form of a text's first line is that of the text.
 use mathlib.Core.Path.{_≡_, refl, sym, ap, subst, _∙_}
 use mathlib.Core.List.{List, [], _∷_, _++_}
-use mathlib.Core.Bool.{Bool, true, false, cond}
 use mathlib.Core.Logic.{_⊎_, inl, inr, ⊎-elim}
-use Prim.Native.Nat.{ℕ, suc, _+_, _≤_, _<_}
+use Prim.Native.Nat.{ℕ, _+_, _<_}
 use native.Mathlib.Numerals.{one-add}
 use native.Mathlib.Omega.{arith}
 use lib.Dec.{eqb}
-use lib.ListN.{length, take, drop}
+use lib.ListN.{take}
 use Rattle.std.proofs.shelf.Tests.{cond-true, cond-false, cond-both, cases-bool, eqb-true, ne-eqb}
-use Rattle.std.proofs.shelf.Ways.{tells}
 use Rattle.std.specs.declared.option.Option.{Option}
 use Rattle.std.specs.declared.option.Option.the-variants.{Some, None}
-use Rattle.table.specs.declared.form.Field.{Field}
 use Rattle.table.specs.declared.form.Field.the-variants.{Deadline, Period, Cost}
 use Rattle.table.specs.declared.form.State.{State}
 use Rattle.table.specs.declared.form.State.the-variants.{Name, Colon, Key, Equals, Start, Digits, Closed, Inner, Length, Body, Member}
 use Rattle.table.specs.declared.form.Move.{Move}
 use Rattle.table.specs.declared.form.Move.the-variants.{Refuse, Finish, Go}
-use Rattle.table.specs.Form.{stepped, brokenAt, formFault}
+use Rattle.table.specs.Form.{stepped, brokenAt}
 use Rattle.table.specs.Lines.{startLine, linesOf, lineLength}
-use Rattle.table.specs.Grammar.{Digit, Small, Letter, Byte, Numeral, Sections, none, section, Line, bytes, numeral, letters, sectionsText, render, renderAll}
+use Rattle.table.specs.Grammar.{Digit, Small, Letter, Byte, Numeral, Sections, none, section, Line, bytes, numeral, letters, sectionsText, render}
 
 -- a text that is one whole line before any other
 abbrev pub OneLine : List ℕ → Type 0

@@ -1,24 +1,22 @@
 -- The items of a written line: those of its sections, each at its place.
-use mathlib.Core.Path.{_≡_, refl, sym, ap, subst, _∙_}
-use mathlib.Core.List.{List, [], _∷_, _++_}
-use mathlib.Core.Bool.{Bool, true, false, cond, not}
+use mathlib.Core.Path.{_≡_, refl, sym, ap, _∙_}
+use mathlib.Core.List.{List, [], _∷_}
+use mathlib.Core.Bool.{true, false, not}
 use mathlib.Core.Logic.{_⊎_, inl, inr, ⊎-elim}
-use Prim.Native.Nat.{ℕ, suc, _+_, _-_, _*_, _^_, _≤_, _<_}
+use Prim.Native.Nat.{ℕ, suc, _+_, _-_, _*_, _^_}
 use native.Mathlib.Omega.{arith}
-use lib.Dec.{eqb, ltb, leb}
-use lib.ListN.{length, take, drop}
+use lib.ListN.{length}
 use Rattle.std.proofs.shelf.Tests.{cond-true, cond-false, cases-bool}
 use Rattle.std.proofs.shelf.Ways.{tells}
-use Rattle.std.specs.declared.option.Option.{Option}
-use Rattle.std.specs.declared.option.Option.the-variants.{Some, None}
+use Rattle.std.specs.declared.option.Option.the-variants.{Some}
 use Rattle.table.specs.declared.line.Letter.{Letter as Mark}
 use Rattle.table.specs.declared.line.Item.{Item}
 use Rattle.table.specs.declared.line.Item.the-variants.{Open, Named, Close}
 use Rattle.table.specs.Byte.{isDigit, isSmall, isCapital}
-use Rattle.table.specs.Number.{digitRun, valueOf}
-use Rattle.table.specs.Head.{bodyAt, lineItems}
+use Rattle.table.specs.Number.{valueOf}
+use Rattle.table.specs.Head.{lineItems}
 use Rattle.table.specs.Item.{markAt, joined, items, itemsFrom}
-use Rattle.table.specs.Grammar.{Digit, Small, Letter, Byte, Numeral, Sections, none, section, Line, bytes, numeral, letters, sectionsText, render}
+use Rattle.table.specs.Grammar.{Digit, Letter, Byte, Numeral, Sections, none, section, Line, bytes, numeral, letters, sectionsText, render}
 use Rattle.table.specs.Breach.{width, resource, sectionsPlace}
 use Rattle.table.proofs.Parsed.{length-bytes, length-letters, run-numeral, read, at-sections, body-at}
 

@@ -1,16 +1,15 @@
 -- What may follow in each state, and that each step of the automaton keeps to it.
 use mathlib.Core.Path.{_≡_, refl, sym, ap, subst, _∙_}
-use mathlib.Core.List.{List, [], _∷_, _++_}
-use mathlib.Core.Bool.{Bool, true, false, cond, _&&_, _||_}
-use mathlib.Core.Logic.{_⊎_, inl, inr}
+use mathlib.Core.List.{List, [], _∷_}
+use mathlib.Core.Bool.{Bool, true, false, cond, _&&_}
 use Prim.Native.Nat.{ℕ, zero, suc, _+_, _-_, _≤_, _<_}
 use native.Mathlib.Numerals.{add-one}
 use native.Mathlib.Omega.{arith}
-use lib.Dec.{leb, ltb, eqb}
+use lib.Dec.{ltb, eqb}
 use lib.ListN.{length}
-use Rattle.std.proofs.shelf.Tests.{cond-both, eqb-true, eqb-false, leb-true, leb-false, ltb-true, lt-ltb, and-parts, or-cases, and-from}
+use Rattle.std.proofs.shelf.Tests.{cond-both, eqb-true, leb-true, ltb-true, lt-ltb, and-parts}
 use Rattle.std.proofs.shelf.Ways.{tells}
-use Rattle.table.specs.Grammar.{Digit, Small, Letter, Byte, Numeral, Sections, none, section, Line, bytes, numeral, letters, sectionsText, render}
+use Rattle.table.specs.Grammar.{Digit, Small, Letter, Byte, Numeral, Sections, none, section, bytes, numeral, letters, sectionsText}
 use Rattle.table.specs.declared.form.Field.{Field}
 use Rattle.table.specs.declared.form.Field.the-variants.{Deadline, Period, Cost}
 use Rattle.table.specs.declared.form.State.{State}

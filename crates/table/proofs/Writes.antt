@@ -1,8 +1,8 @@
 -- The records of a line's sections, one by one.
 use mathlib.Core.Path.{_≡_, refl, sym, ap, subst, _∙_}
-use mathlib.Core.List.{List, [], _∷_, _++_}
-use mathlib.Core.Bool.{Bool, true, false}
-use Prim.Native.Nat.{ℕ, _+_, _-_, _≤_, _<_}
+use mathlib.Core.List.{List, [], _∷_}
+use mathlib.Core.Bool.{true}
+use Prim.Native.Nat.{ℕ, _+_, _<_}
 use native.Mathlib.Omega.{arith}
 use lib.Dec.{ltb}
 use lib.ListN.{length, set}
@@ -10,7 +10,6 @@ use Rattle.std.proofs.shelf.Tests.{and-parts}
 use Rattle.table.specs.declared.line.Numeral.{Numeral}
 use Rattle.table.specs.declared.line.Item.{Item}
 use Rattle.table.specs.declared.line.Item.the-variants.{Open, Named, Close}
-use Rattle.table.specs.declared.fill.Letters.{Letters}
 use Rattle.table.specs.declared.records.SectionRecord.{SectionRecord}
 use Rattle.table.specs.Nest.{top, outer}
 use Rattle.table.specs.Number.{ticksOf}

@@ -1,7 +1,7 @@
 -- The form of a line as an automaton that reads it byte by byte. It keeps how many sections are open, and not which; so any
 -- depth is well formed, and so is a number of any length. What the numbers and letters say is judged elsewhere.
 use mathlib.Core.List.{List, [], _∷_}
-use mathlib.Core.Bool.{Bool, true, false, cond, _&&_, _||_}
+use mathlib.Core.Bool.{cond, _&&_}
 use Prim.Native.Nat.{ℕ, _+_, _-_}
 use lib.Dec.{ltb, eqb}
 use Rattle.std.specs.declared.option.Option.{Option}

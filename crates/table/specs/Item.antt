@@ -8,8 +8,6 @@ use lib.Dec.{eqb}
 use lib.ListN.{length, drop}
 use Rattle.std.specs.declared.option.Option.{Option}
 use Rattle.std.specs.declared.option.Option.the-variants.{Some, None}
-use Rattle.table.specs.declared.line.Numeral.{Numeral}
-use Rattle.table.specs.declared.line.Letter.{Letter}
 use Rattle.table.specs.declared.line.Item.{Item}
 use Rattle.table.specs.declared.line.Item.the-variants.{Open, Named, Close}
 use Rattle.table.specs.Byte.{isDigit, isSmall, isCapital}

@@ -1,9 +1,9 @@
 -- Levels. A resource's level is the least D of the tasks that name it; a section's level is the least level of the
 -- resources that it names itself. No level counts as above every number.
 use mathlib.Core.List.{List, [], _∷_, map}
-use mathlib.Core.Bool.{Bool, true, false, cond, _||_}
-use Prim.Native.Nat.{ℕ, zero, suc, _+_, _/_, _%_, _^_, min}
-use lib.Dec.{ltb, eqb}
+use mathlib.Core.Bool.{Bool, cond, _||_}
+use Prim.Native.Nat.{ℕ, _+_, _/_, _%_, _^_, min}
+use lib.Dec.{eqb}
 use Rattle.std.specs.shelf.Maps.{nth}
 use Rattle.std.specs.Options.{mapped}
 use Rattle.std.specs.Iters.{counting}

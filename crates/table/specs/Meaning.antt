@@ -21,7 +21,7 @@ use Rattle.table.specs.Grammar.{Line, render, renderAll}
 use Rattle.table.specs.Breach.{Breaks, AllGood, pastAll}
 use Rattle.table.specs.Broken.{BrokenAt}
 use Rattle.table.specs.Meant.{tasksMeant, allSectionsMeant}
-use Rattle.table.specs.Judged.{roomFor, nothingRead}
+use Rattle.table.specs.Judged.{nothingRead}
 use Rattle.table.specs.Record.{textTasks, bareSections}
 
 -- the line breaks the rule at p, nowhere earlier, and no rule with a lower number anywhere

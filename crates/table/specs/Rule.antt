@@ -1,7 +1,7 @@
 -- The rules that a well-formed line has to keep, each as the place of its earliest breach, from 0 in the line, or none. They are
 -- numbered 4 to 9, and `Judged` has their order.
 use mathlib.Core.List.{List, [], _∷_}
-use mathlib.Core.Bool.{Bool, true, false, cond, _&&_}
+use mathlib.Core.Bool.{Bool, true, cond, _&&_}
 use Prim.Native.Nat.{ℕ, _+_, _-_}
 use lib.Bits.{bitAnd, bitOr}
 use lib.Dec.{leb, ltb, eqb}
@@ -9,7 +9,6 @@ use Rattle.std.specs.Options.{valueOr}
 use Rattle.std.specs.declared.option.Option.{Option}
 use Rattle.std.specs.declared.option.Option.the-variants.{Some, None}
 use Rattle.table.specs.declared.line.Numeral.{Numeral}
-use Rattle.table.specs.declared.line.Letter.{Letter}
 use Rattle.table.specs.declared.line.Item.{Item}
 use Rattle.table.specs.declared.line.Item.the-variants.{Open, Named, Close}
 use Rattle.table.specs.declared.head.Head.{Head}

@@ -1,12 +1,11 @@
 //! Checks a text before anything is written: which rule it breaks first, or how many tasks and sections it has.
 ghost use mathlib.Core.Path.{_≡_};
-ghost use mathlib.Core.List.{[]};
-ghost use Prim.Native.Nat.{ℕ, _+_, _<_, _≤_};
-ghost use lib.ListN.{length, drop, take};
+ghost use Prim.Native.Nat.{_+_, _<_, _≤_};
+ghost use lib.ListN.{length, drop};
 ghost use Rattle.std.specs.Results.{Cases};
 ghost use Rattle.std.specs.declared.option.Option.the-variants.{Some, None};
 ghost use Rattle.std.specs.declared.result.Result.the-variants.{Ok, Err};
-ghost use Rattle.table.specs.Judged.{unless, lineJudged, linesJudged, nothingRead};
+ghost use Rattle.table.specs.Judged.{lineJudged, linesJudged, nothingRead};
 ghost use Rattle.table.specs.Limits.{longestText};
 ghost use Rattle.table.specs.Lines.{linesOf, lineLength};
 use crate::form::form_fault;

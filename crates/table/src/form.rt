@@ -1,7 +1,6 @@
 //! The form of a line, read byte by byte: which bytes can stand where, whatever they say.
 ghost use mathlib.Core.Path.{_≡_};
-ghost use Prim.Native.Nat.{ℕ, _+_, _<_, _≤_, _^_};
-ghost use lib.ListN.{length};
+ghost use Prim.Native.Nat.{_+_, _<_, _^_};
 ghost use Rattle.table.specs.Form.{inName, inKey, inDigits, inClosed, inInner, inLength, inMember, stepped, depthOf, formFault};
 use crate::limits::LONGEST_NAME;
 

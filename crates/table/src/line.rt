@@ -2,8 +2,8 @@
 //!
 //! None of these functions relies on the line's form; on other lines they find what their definitions say.
 ghost use mathlib.Core.Path.{_≡_};
-ghost use Prim.Native.Nat.{ℕ, _+_, _<_, _≤_, _^_, min};
-ghost use lib.ListN.{length, getD, drop};
+ghost use Prim.Native.Nat.{_+_, _<_, _^_, min};
+ghost use lib.ListN.{drop};
 ghost use Rattle.std.specs.Options.{Cases as BySome};
 ghost use Rattle.table.specs.Item.{markAt, Next};
 ghost use Rattle.table.specs.Limits.{largest};

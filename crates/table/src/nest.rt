@@ -1,7 +1,7 @@
 //! What is remembered of each open section while a line is read.
 ghost use mathlib.Core.Path.{_≡_};
 ghost use mathlib.Core.List.{_∷_, []};
-ghost use Prim.Native.Nat.{ℕ, _+_, _-_, _<_, _≤_};
+ghost use Prim.Native.Nat.{_+_, _-_, _<_, _≤_};
 ghost use lib.ListN.{length};
 ghost use Rattle.table.specs.Limits.{deepest};
 ghost use Rattle.table.specs.Nest.{inner, top, outer, renewed};

@@ -1,13 +1,10 @@
-use mathlib.Core.Path.{_≡_, sym, _∙_, ap, subst}
+use mathlib.Core.Path.{_∙_, ap}
 use mathlib.Core.List.{[]}
-use mathlib.Core.Bool.{true}
-use Prim.Native.Nat.{_+_, _≤_, _<_}
 use native.Mathlib.Omega.{arith}
 use lib.ListN.{length, drop}
 use Rattle.std.proofs.shelf.Lists.{length-drop}
 use Rattle.table.specs.declared.head.Head.{Head}
 use Rattle.table.specs.declared.records.TaskRecord.{TaskRecord}
-use Rattle.table.specs.Head.{lineItems}
 use Rattle.table.specs.Item.{itemsFrom}
 use Rattle.table.specs.Rule.{opens, shallow}
 use Rattle.table.specs.Judged.{roomFor}

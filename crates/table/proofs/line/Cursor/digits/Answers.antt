@@ -1,5 +1,5 @@
-use mathlib.Core.Path.{_≡_, sym, _∙_, ap}
-use Prim.Native.Nat.{_+_, min, _*_, _≤_}
+use mathlib.Core.Path.{_≡_, _∙_, ap}
+use Prim.Native.Nat.{_+_, min, _*_}
 use native.Mathlib.Nat.{min-comm}
 use native.Mathlib.Omega.{arith}
 use denote.Ref.{now}

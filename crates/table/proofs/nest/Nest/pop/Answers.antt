@@ -1,4 +1,4 @@
-use mathlib.Core.Path.{refl, _∙_, ap}
+use mathlib.Core.Path.{_∙_, ap}
 use Rattle.table.specs.Nest.{inner}
 use Rattle.table.proofs.Nested.{inner-pop}
 use Rattle.table.proofs.nest.Nest.pop.Needs as need

@@ -1,4 +1,4 @@
-use mathlib.Core.Path.{refl, _∙_}
+use mathlib.Core.Path.{refl}
 use native.Mathlib.Omega.{arith}
 use Rattle.table.proofs.Nested.{inner-push}
 use Rattle.table.proofs.nest.Nest.push.Needs as need
