@@ -1,19 +1,15 @@
 -- Blocking: the longest section that can hold up jobs due by an instant.
-use mathlib.Core.Path.{_≡_, refl, sym, ap, _∙_}
+use mathlib.Core.Path.{_≡_, refl, ap, _∙_}
 use mathlib.Core.List.{List, [], _∷_}
-use mathlib.Core.Bool.{true, false, cond, _&&_}
+use mathlib.Core.Bool.{true, false, cond}
 use mathlib.Core.Logic.{_⊎_, inl, inr}
 use Prim.Native.Nat.{ℕ, _+_, _≤_, _<_, max}
 use native.Mathlib.Omega.{arith}
-use lib.Dec.{leb, ltb}
 use lib.ListN.{length, getD, drop}
-use Rattle.std.specs.Options.{mapped}
-use Rattle.std.specs.shelf.Maps.{nth}
 use Rattle.std.proofs.shelf.Lists.{at-drop-more}
-use Rattle.std.proofs.shelf.Maps.{nth-past}
 use Rattle.std.specs.shelf.Lists.{All}
 use Rattle.std.proofs.shelf.Elements.{all-weaker}
-use Rattle.std.proofs.shelf.Tests.{cond-both, cond-true, cond-false, cases-lt, le-leb, lt-leb, leb-true, lt-ltb, ltb-true, ltb-false, and-parts, and-from, and-left, and-right}
+use Rattle.std.proofs.shelf.Tests.{cond-both, cond-true, cond-false, cases-lt, le-leb, lt-leb, leb-true, lt-ltb, ltb-true, and-parts, and-from, and-left}
 use Rattle.std.specs.declared.option.Option.{Option}
 use Rattle.std.specs.declared.option.Option.the-variants.{Some, None}
 use Rattle.table.specs.declared.records.TaskRecord.{TaskRecord}
@@ -39,17 +35,8 @@ module _ (tasks : List TaskRecord) (ss : List SectionRecord) (i t : ℕ) (h : i 
   pub blocking-pass : blocks tasks (getD ss i no-section) t ≡ false → blocking tasks (drop i ss) t ≡ blocking tasks (drop (i + 1) ss) t
   blocking-pass e = more ∙ ap (λ b. max (cond b (getD ss i no-section .length) 0) (blocking tasks (drop (i + 1) ss) t)) e ∙ omega arith
 
--- whether one section can block, by its level and its task
-module _ (tasks : List TaskRecord) (s : SectionRecord) (t : ℕ) where
-  pub blocks-unowned : false ≡ ltb (s .task) (length tasks) → blocks tasks s t ≡ false
-  blocks-unowned e =
-      and-right _ _ (ap (λ o. later (mapped (λ (k : TaskRecord). k .deadline) o) t) (nth-past tasks (s .task) (ltb-false (s .task) (length tasks) (sym e))))
-
-  pub blocks-by : (l : ℕ) (k : TaskRecord) → s .level ≡ Some l → nth tasks (s .task) ≡ Some k → blocks tasks s t ≡ (leb l t && ltb t (k .deadline))
-  blocks-by l k e f =
-      ap (λ o. reaches o t && later (deadlineOf tasks (s .task)) t) e ∙ ap (λ o. leb l t && later (mapped (λ (k : TaskRecord). k .deadline) o) t) f
-
 -- it is at most b where each section that can block is
+
 pub blocking-le : (tasks : List TaskRecord) (ss : List SectionRecord) (t b : ℕ) → All (λ s. blocks tasks s t ≡ true → s .length ≤ b) ss → blocking tasks ss t ≤ b
 blocking-le tasks [] t b a = omega arith
 blocking-le tasks (s ∷ ss) t b a =
