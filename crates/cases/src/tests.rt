@@ -75,14 +75,21 @@ fn unfit(text: &[u8]) -> Option<Unfit> {
     }
 }
 
+/// The flash table, and the same with a longer last section: one that still fits, and one that does not.
+const FLASH: &[u8] =
+    b"hostrd: D=40 T=50 C=10 9{ a B }\nmapupd: D=50 T=80 C=10 8{ a 2{ B 1{ C } } }\nreloc: D=60 T=100 C=20 2{ b } 17{ c 13{ b } }\nscrub: D=90 T=90 C=30 18{ a c }\n";
+
+const LONGER: &[u8] =
+    b"hostrd: D=40 T=50 C=10 9{ a B }\nmapupd: D=50 T=80 C=10 8{ a 2{ B 1{ C } } }\nreloc: D=60 T=100 C=20 2{ b } 17{ c 13{ b } }\nscrub: D=90 T=90 C=30 20{ a c }\n";
+
+const TOO_LONG: &[u8] =
+    b"hostrd: D=40 T=50 C=10 9{ a B }\nmapupd: D=50 T=80 C=10 8{ a 2{ B 1{ C } } }\nreloc: D=60 T=100 C=20 2{ b } 17{ c 13{ b } }\nscrub: D=90 T=90 C=30 21{ a c }\n";
+
 #[test]
 fn a_section_can_be_too_long() -> Result<(), Fail> {
-    let head = "hostrd: D=40 T=50 C=10 9{ a B }\nmapupd: D=50 T=80 C=10 8{ a 2{ B 1{ C } } }\n";
-    check_eq(unfit(head.as_bytes()), None)?;
-    check_eq(
-        unfit(b"a: D=40 T=50 C=10 9{ a }\nb: D=60 T=90 C=30 30{ a }\nc: D=50 T=80 C=11\n"),
-        Some(Unfit::Demand(50, 51)),
-    )
+    check_eq(unfit(FLASH), None)?;
+    check_eq(unfit(LONGER), None)?;
+    check_eq(unfit(TOO_LONG), Some(Unfit::Demand(60, 61)))
 }
 
 #[test]
