@@ -1,0 +1,5 @@
+pub mod State
+pub mod Step
+pub mod Run
+pub mod Promise
+pub mod Worked
