@@ -94,7 +94,7 @@ pub fn both<P: Queue, Q: Queue<Entry = P::Entry>>(
     requires ordered { ⌜ P·Queue .ordered (Entry·QueueEntry .order) (now p) × Q·Queue .ordered (Entry·QueueEntry .order) (now q) ⌝ }
     ensures ordered { λ _. ⌜ P·Queue .ordered (Entry·QueueEntry .order) (now (p .exit)) × Q·Queue .ordered (Entry·QueueEntry .order) (now (q .exit)) ⌝ }
     ensures value { λ r. ⌜ r ≡ comparable (P·Queue .list (now (p .entry))) (Q·Queue .list (now (q .entry))) (P·Queue .capacity (now (p .entry))) (Q·Queue .capacity (now (q .entry))) (length (now (calls .entry))) (length (now («from_p» .entry))) (length (now («from_q» .entry))) ⌝ }
-    ensures same { λ r. ⌜ (r ≡ false → (P·Queue .list (now (p .exit)) ≡ P·Queue .list (now (p .entry))) × (Q·Queue .list (now (q .exit)) ≡ Q·Queue .list (now (q .entry)))) ⌝ }
+    ensures same { λ r. ⌜ (r ≡ false → (P·Queue .list (now (p .exit)) ≡ P·Queue .list (now (p .entry))) × (Q·Queue .list (now (q .exit)) ≡ Q·Queue .list (now (q .entry))) × (now («from_p» .exit) ≡ now («from_p» .entry)) × (now («from_q» .exit) ≡ now («from_q» .entry))) ⌝ }
     ensures law { λ r. ⌜ (r ≡ true → Alike (Entry·QueueEntry .order) (P·Queue .capacity (now (p .entry))) (now (calls .entry)) (now («from_p» .exit)) (now («from_q» .exit)) (P·Queue .list (now (p .exit))) (Q·Queue .list (now (q .exit)))) ⌝ }
 {
     if p.count() != 0 || q.count() != 0 {
