@@ -74,6 +74,7 @@ fn run_both<P: Queue, Q: Queue<Entry = P::Entry>>(
     requires capacity { ⌜ P·Queue .capacity (now p) ≡ Q·Queue .capacity (now q) ⌝ }
     requires room { ⌜ (length (now «from_p») ≡ length (now calls)) × (length (now «from_q») ≡ length (now calls)) ⌝ }
     ensures ordered { λ _. ⌜ P·Queue .ordered (Entry·QueueEntry .order) (now (p .exit)) × Q·Queue .ordered (Entry·QueueEntry .order) (now (q .exit)) ⌝ }
+    ensures capacity { λ _. ⌜ (P·Queue .capacity (now (p .exit)) ≡ P·Queue .capacity (now (p .entry))) × (Q·Queue .capacity (now (q .exit)) ≡ Q·Queue .capacity (now (q .entry))) ⌝ }
     ensures law { λ _. ⌜ Alike (Entry·QueueEntry .order) (P·Queue .capacity (now (p .entry))) (now (calls .entry)) (now («from_p» .exit)) (now («from_q» .exit)) (P·Queue .list (now (p .exit))) (Q·Queue .list (now (q .exit))) ⌝ }
 {
     run(calls, p, from_p);
@@ -93,6 +94,7 @@ pub fn both<P: Queue, Q: Queue<Entry = P::Entry>>(
 ) -> bool
     requires ordered { ⌜ P·Queue .ordered (Entry·QueueEntry .order) (now p) × Q·Queue .ordered (Entry·QueueEntry .order) (now q) ⌝ }
     ensures ordered { λ _. ⌜ P·Queue .ordered (Entry·QueueEntry .order) (now (p .exit)) × Q·Queue .ordered (Entry·QueueEntry .order) (now (q .exit)) ⌝ }
+    ensures capacity { λ _. ⌜ (P·Queue .capacity (now (p .exit)) ≡ P·Queue .capacity (now (p .entry))) × (Q·Queue .capacity (now (q .exit)) ≡ Q·Queue .capacity (now (q .entry))) ⌝ }
     ensures value { λ r. ⌜ r ≡ comparable (P·Queue .list (now (p .entry))) (Q·Queue .list (now (q .entry))) (P·Queue .capacity (now (p .entry))) (Q·Queue .capacity (now (q .entry))) (length (now (calls .entry))) (length (now («from_p» .entry))) (length (now («from_q» .entry))) ⌝ }
     ensures same { λ r. ⌜ (r ≡ false → (P·Queue .list (now (p .exit)) ≡ P·Queue .list (now (p .entry))) × (Q·Queue .list (now (q .exit)) ≡ Q·Queue .list (now (q .entry))) × (now («from_p» .exit) ≡ now («from_p» .entry)) × (now («from_q» .exit) ≡ now («from_q» .entry))) ⌝ }
     ensures law { λ r. ⌜ (r ≡ true → Alike (Entry·QueueEntry .order) (P·Queue .capacity (now (p .entry))) (now (calls .entry)) (now («from_p» .exit)) (now («from_q» .exit)) (P·Queue .list (now (p .exit))) (Q·Queue .list (now (q .exit)))) ⌝ }

@@ -23,6 +23,7 @@ returns g c =
     let sound : Sound o n [] = subst (Sound o n) (c .pre .empty .0) (g .P·Queue .sound o p (c .pre .ordered .0)) in
     record {
       ordered = (c .run .ensures .ordered, c .run-2 .ensures .ordered);
+      capacity = (c .run .ensures .capacity, c .run-2 .ensures .capacity);
       law = record {
         same-answers = value ∙ sym value-2;
         same-lists = after ∙ sym after-2;
