@@ -141,6 +141,11 @@ unfolding is
 none-first i zero j h = refl
 none-first i (suc n) j h = let z = cond-false {A = ℕ} (eqb j i) 1 0 (ne-eqb j i (λ e. omega arith)) in omega (arith, z, none-first i n (j + 1) (omega arith))
 
+none-past : (i n j : ℕ) → j + n ≤ i → tot (λ (a : Waiting). is i (a .task)) (firstReleases j n) ≡ 0
+unfolding is
+none-past i zero j h = refl
+none-past i (suc n) j h = let z = cond-false {A = ℕ} (eqb j i) 1 0 (ne-eqb j i (λ e. omega arith)) in omega (arith, z, none-past i n (j + 1) (omega arith))
+
 one-first : (i n j : ℕ) → j ≤ i → i < j + n → tot (λ (a : Waiting). is i (a .task)) (firstReleases j n) ≡ 1
 unfolding is
 one-first i zero j h g = absurd (omega arith)
@@ -155,9 +160,15 @@ pub placed : (k : Table) (c : ℕ) (w : List Waiting) (r : List Released) (s : L
 placed k c w r s h i lt =
     omega (arith, h .once (is i), waits-is i w, out-is i r, stands-is i s, one-first i (length (k .tasks)) 0 (omega arith) (omega arith))
 
+-- and no number that is no task's stands anywhere
+pub stranger : (k : Table) (c : ℕ) (w : List Waiting) (r : List Released) (s : List Job) → Shape k c w r s → (i : ℕ) → length (k .tasks) ≤ i → waits i w + isOut i r + stands i s ≡ 0
+stranger k c w r s h i ge =
+    omega (arith, h .once (is i), waits-is i w, out-is i r, stands-is i s, none-past i (length (k .tasks)) 0 (omega arith))
+
 pub balance-reached : (k : Table) (cs : List Call) → Shape k (reached k cs .clock) (reached k cs .waiting) (reached k cs .released) (reached k cs .stack) → Balance k (history k cs) (reached k cs)
 balance-reached k cs h = record {
   places = placed k (reached k cs .clock) (reached k cs .waiting) (reached k cs .released) (reached k cs .stack) h;
+  strangers = stranger k (reached k cs .clock) (reached k cs .waiting) (reached k cs .released) (reached k cs .stack) h;
   jobs = jobs-run k cs (start k) refl;
   sections = sections-run k cs (start k) refl;
   once = once-ended k cs (start k) (λ n e. absurd (Rattle.std.proofs.shelf.Tests.false≢true e));

@@ -8,6 +8,7 @@ use lib.Dec.{eqb}
 use lib.ListN.{length}
 use Rattle.std.specs.shelf.Lists.{All}
 use Rattle.table.specs.declared.records.TaskRecord.{TaskRecord}
+use Rattle.table.specs.Limits.{resources}
 use Rattle.table.specs.Level.{names}
 use Rattle.queue.specs.declared.waiting.Waiting.{Waiting}
 use Rattle.queue.specs.declared.released.Released.{Released}
@@ -37,7 +38,7 @@ Free k r js = All (λ j. HasOpen k r (j .opened) → ⊥) js
 -- no resource is open in two tasks
 abbrev pub OneOwner : Table → List Job → Type 0
 OneOwner k [] = Unit {0}
-OneOwner k (j ∷ js) = ((r : ℕ) → r < 26 → HasOpen k r (j .opened) → Free k r js) × OneOwner k js
+OneOwner k (j ∷ js) = ((r : ℕ) → r < resources → HasOpen k r (j .opened) → Free k r js) × OneOwner k js
 
 -- how many different numbers there are
 abbrev pub among : ℕ → List ℕ → Bool
@@ -123,6 +124,7 @@ pub record Counted (h : List Event) (s : State) : Type 0 where
 -- nothing is lost: tasks, jobs, sections, grants
 pub record Balance (k : Table) (h : List Event) (s : State) : Type 0 where
   pub places : (i : ℕ) → i < length (k .tasks) → waits i (s .waiting) + isOut i (s .released) + stands i (s .stack) ≡ 1
+  pub strangers : (i : ℕ) → length (k .tasks) ≤ i → waits i (s .waiting) + isOut i (s .released) + stands i (s .stack) ≡ 0
   pub jobs : s .counts .releases ≡ s .counts .finishes + s .counts .expiries + length (s .released) + length (s .stack)
   pub sections : s .counts .entries ≡ s .counts .leaves + s .counts .taken + openCount (s .stack)
   pub once : (n : ℕ) → ended n h ≤ 1

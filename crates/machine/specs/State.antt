@@ -8,6 +8,7 @@ use Rattle.std.specs.declared.option.Option.{Option}
 use Rattle.std.specs.declared.option.Option.the-variants.{Some, None}
 use Rattle.table.specs.declared.records.TaskRecord.{TaskRecord}
 use Rattle.table.specs.declared.records.SectionRecord.{SectionRecord}
+use Rattle.table.specs.Limits.{mostTasks}
 use Rattle.queue.specs.declared.waiting.Waiting.{Waiting}
 use Rattle.queue.specs.declared.released.Released.{Released}
 
@@ -71,7 +72,7 @@ start k = record {
   counts = record { releases = 0; finishes = 0; expiries = 0; entries = 0; leaves = 0; taken = 0 };
 }
 
--- the least of a number and a level, where no level is above every number
+-- the least of a number and a level, where a missing level counts as above every number
 abbrev pub orLower : ℕ → Option ℕ → ℕ
 orLower n None = n
 orLower n (Some level) = min n level
@@ -86,7 +87,7 @@ inherited k j = lowered k (relative k (j .task)) (j .opened)
 
 -- the running task, or 32 for none
 abbrev pub running : List Job → ℕ
-running [] = 32
+running [] = mostTasks
 running (j ∷ js) = j .task
 
 -- the least of two instants, where none is later than any

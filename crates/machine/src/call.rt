@@ -1,4 +1,6 @@
 //! What a run is made of: calls, and what each of them answers.
+ghost use mathlib.Core.Path.{_≡_};
+ghost use Rattle.machine.specs.Answer.{refusalNumber};
 
 /// The three numbers of a grant: its task, its section, and how many entries were made before it.
 #[derive(Clone, Copy, Debug, PartialEq)]
@@ -42,6 +44,25 @@ pub enum Refusal {
     NotOpen,
     /// The running job has a section open.
     StillOpen,
+}
+
+impl Refusal {
+    /// The number of the refusal, 14 to 22; of several reasons, the one with the lowest number is the refusal.
+    pub fn number(&self) -> u32
+        ensures { λ r. ⌜ r ≡ refusalNumber (now (self .entry)) ⌝ }
+    {
+        match self {
+            Refusal::Past => 14,
+            Refusal::Far => 15,
+            Refusal::BeyondDue(_) => 16,
+            Refusal::NothingRuns => 17,
+            Refusal::NotEnterable => 18,
+            Refusal::TooManyEntries => 19,
+            Refusal::NotInnermost(_) => 20,
+            Refusal::NotOpen => 21,
+            Refusal::StillOpen => 22,
+        }
+    }
 }
 
 /// What a call answers.
