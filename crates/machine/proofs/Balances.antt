@@ -11,9 +11,11 @@ use Rattle.std.proofs.shelf.Tests.{cases-lt, cases-bool, cond-true, cond-false,
 use Rattle.queue.specs.declared.waiting.Waiting.{Waiting}
 use Rattle.queue.specs.declared.released.Released.{Released}
 use Rattle.machine.specs.declared.call.Call.{Call}
+use Rattle.machine.specs.declared.call.Answer.{Answer}
+use Rattle.machine.specs.declared.call.Answer.the-variants.{Advanced, Granted, Running, Refused}
 use Rattle.machine.specs.State.{Table, Job, State, start, firstReleases}
 use Rattle.machine.specs.Step.{step}
-use Rattle.machine.specs.Run.{Event, historyFrom, history, stateFrom, reached, total, ended, isOpen}
+use Rattle.machine.specs.Run.{Event, historyFrom, history, stateFrom, reached, total, given, ended, isOpen}
 use Rattle.machine.specs.Promise.{waits, isOut, stands, openCount, releasesOf, expiriesOf, finishesOf, entriesOf, leavesOf, takenOf, Counted, Balance}
 use Rattle.machine.proofs.Lists.{tot}
 use Rattle.machine.proofs.Shape.{Shape}
@@ -69,6 +71,52 @@ module _ (k : Table) where
   sections-run : (cs : List Call) (s : State) → Sections s → Sections (stateFrom k s cs)
   sections-run [] s h = h
   sections-run (c ∷ cs) s h = sections-run cs (step k c s .state) (omega (arith, told k c s .sections))
+
+  -- a call makes one entry or none
+  one-entry : (s : State) (c : Call) (a : Answer) (s′ : State) → entriesOf (record { before = s; call = c; answer = a; after = s′ }) ≤ 1
+  one-entry s c (Advanced x r i) s′ = omega arith
+  one-entry s c (Granted g) s′ = omega arith
+  one-entry s c (Running i) s′ = omega arith
+  one-entry s c (Refused r) s′ = omega arith
+
+  -- a serial that was used is not given again
+  not-again : (cs : List Call) (s : State) (n : ℕ) → n < s .counts .entries → given n (historyFrom k s cs) ≡ 0
+  not-again [] s n lt = refl
+  not-again (c ∷ cs) s n lt =
+      let t = told k c s in
+      let z = t .serials n .1 (λ e. omega (arith, e, lt)) in
+      omega (arith, z, not-again cs (step k c s .state) n (omega (arith, t .entries, lt)))
+
+  -- one that is not used yet in the end was never given
+  not-yet : (cs : List Call) (s : State) (n : ℕ) → stateFrom k s cs .counts .entries ≤ n → given n (historyFrom k s cs) ≡ 0
+  not-yet [] s n ge = refl
+  not-yet (c ∷ cs) s n ge =
+      let t = told k c s in
+      let ih = not-yet cs (step k c s .state) n ge in
+      let up = sums cs (step k c s .state) .entries in
+      elim (cases-lt (s .counts .entries) n) [
+        | inl lt ↦ let z = t .serials n .1 (λ e. omega (arith, e, lt)) in omega (arith, z, ih)
+        | inr le ↦ let z = t .serials n .0 (omega (arith, t .entries, up, ge, le)) in omega (arith, z, ih, t .entries, up, ge, le)
+      ]
+
+  -- one that is used in between is given once
+  given-once : (cs : List Call) (s : State) (n : ℕ) → s .counts .entries ≤ n → n < stateFrom k s cs .counts .entries → given n (historyFrom k s cs) ≡ 1
+  given-once [] s n ge lt = absurd (omega (arith, ge, lt))
+  given-once (c ∷ cs) s n ge lt =
+      let t = told k c s in
+      let s′ : State = step k c s .state in
+      let one = one-entry s c (step k c s .answer) s′ in
+      elim (cases-lt (s .counts .entries) n) [
+        | inl lt′ ↦
+            let z = t .serials n .1 (λ e. omega (arith, e, lt′)) in
+            omega (arith, z, given-once cs s′ n (omega (arith, t .entries, one, lt′)) lt)
+        | inr le ↦
+            let z = t .serials n .0 (omega (arith, ge, le)) in
+            elim (cases-lt n (s′ .counts .entries)) [
+              | inl made′ ↦ omega (arith, z, one, t .entries, made′, ge, not-again cs s′ n made′)
+              | inr not-made ↦ omega (arith, z, t .entries, not-made, le, ge, given-once cs s′ n not-made lt)
+            ]
+      ]
 
   -- whether a call ends the grant
   abbrev ends : ℕ → Event → ℕ
@@ -171,5 +219,6 @@ balance-reached k cs h = record {
   strangers = stranger k (reached k cs .clock) (reached k cs .waiting) (reached k cs .released) (reached k cs .stack) h;
   jobs = jobs-run k cs (start k) refl;
   sections = sections-run k cs (start k) refl;
+  fresh = λ n. (given-once k cs (start k) n (omega arith), not-yet k cs (start k) n);
   once = once-ended k cs (start k) (λ n e. absurd (Rattle.std.proofs.shelf.Tests.false≢true e));
 }

@@ -7,7 +7,7 @@ use mathlib.Core.List.{List, [], _∷_}
 use native.Mathlib.Omega.{arith}
 use lib.Dec.{eqb, ltb}
 use lib.ListN.{length}
-use Rattle.std.proofs.shelf.Tests.{cond-both, or-cases, or-left, or-right, and-parts, eqb-true, false≢true}
+use Rattle.std.proofs.shelf.Tests.{cond-both, or-cases, or-left, or-right, and-parts, eqb-true, eq-eqb, ne-eqb, cond-true, cond-false, false≢true}
 use Rattle.queue.specs.declared.waiting.Waiting.{Waiting}
 use Rattle.queue.specs.declared.released.Released.{Released}
 use Rattle.machine.specs.declared.call.Ticket.{Ticket}
@@ -18,7 +18,7 @@ use Rattle.machine.specs.declared.call.Refusal.the-variants.{NothingRuns, NotE
 use Rattle.machine.specs.declared.call.Answer.the-variants.{Granted, Running}
 use Rattle.machine.specs.State.{Table, Open, Job, Counts, State, running}
 use Rattle.machine.specs.Step.{goes, picked, selected, putBack, Outcome, refused, advanced, advancedAnswer, step, entered, enterable, ticket, entering, left, leaving, isInnermost, grantOpen, closed, finished, finishing, noneOpen, mostEntries}
-use Rattle.machine.specs.Run.{Event, holds, isOpen}
+use Rattle.machine.specs.Run.{Event, holds, isOpen, gives}
 use Rattle.machine.specs.Promise.{openCount, releasesOf, expiriesOf, finishesOf, entriesOf, leavesOf, takenOf}
 use Rattle.machine.proofs.Moves.{begin, withOpen}
 use Rattle.machine.proofs.Parts.{made}
@@ -41,14 +41,15 @@ pub record Told (e : Event) : Type 0 where
       ≡ e .before .counts .releases + (e .after .counts .finishes + e .after .counts .expiries + length (e .after .released) + length (e .after .stack))
   pub sections : e .after .counts .entries + (e .before .counts .leaves + e .before .counts .taken + openCount (e .before .stack))
       ≡ e .before .counts .entries + (e .after .counts .leaves + e .after .counts .taken + openCount (e .after .stack))
+  pub serials : (n : ℕ) → (n ≡ e .before .counts .entries → gives n (e .answer) ≡ entriesOf e) × ((n ≡ e .before .counts .entries → ⊥) → gives n (e .answer) ≡ 0)
   pub opens : (n : ℕ) → isOpen n (e .after .stack) ≡ true
       → (isOpen n (e .before .stack) ≡ true) ⊎ ((n ≡ e .before .counts .entries) × (e .after .counts .entries ≡ e .before .counts .entries + 1))
 
 told-refused : (s : State) (r : Refusal) (c : Call) → Told (eventOf s c (refused s r))
-told-refused s r (Advance t) = record { releases = omega arith; expiries = omega arith; finishes = omega arith; entries = omega arith; leaves = omega arith; taken = omega arith; jobs = refl; sections = refl; opens = λ n h. inl h }
-told-refused s r (Enter x) = record { releases = omega arith; expiries = omega arith; finishes = omega arith; entries = omega arith; leaves = omega arith; taken = omega arith; jobs = refl; sections = refl; opens = λ n h. inl h }
-told-refused s r (Leave g) = record { releases = omega arith; expiries = omega arith; finishes = omega arith; entries = omega arith; leaves = omega arith; taken = omega arith; jobs = refl; sections = refl; opens = λ n h. inl h }
-told-refused s r Finish = record { releases = omega arith; expiries = omega arith; finishes = omega arith; entries = omega arith; leaves = omega arith; taken = omega arith; jobs = refl; sections = refl; opens = λ n h. inl h }
+told-refused s r (Advance t) = record { releases = omega arith; expiries = omega arith; finishes = omega arith; entries = omega arith; leaves = omega arith; taken = omega arith; jobs = refl; sections = refl; serials = λ n. (λ _. refl, λ _. refl); opens = λ n h. inl h }
+told-refused s r (Enter x) = record { releases = omega arith; expiries = omega arith; finishes = omega arith; entries = omega arith; leaves = omega arith; taken = omega arith; jobs = refl; sections = refl; serials = λ n. (λ _. refl, λ _. refl); opens = λ n h. inl h }
+told-refused s r (Leave g) = record { releases = omega arith; expiries = omega arith; finishes = omega arith; entries = omega arith; leaves = omega arith; taken = omega arith; jobs = refl; sections = refl; serials = λ n. (λ _. refl, λ _. refl); opens = λ n h. inl h }
+told-refused s r Finish = record { releases = omega arith; expiries = omega arith; finishes = omega arith; entries = omega arith; leaves = omega arith; taken = omega arith; jobs = refl; sections = refl; serials = λ n. (λ _. refl, λ _. refl); opens = λ n h. inl h }
 
 module _ (k : Table) where
   -- selection counts nothing
@@ -72,6 +73,7 @@ module _ (k : Table) where
         taken = omega (arith, f .taken, f .sections);
         jobs = omega (arith, f .jobs, f .finishes);
         sections = omega (arith, f .entries, f .leaves, f .sections);
+        serials = λ n. (λ _. refl, λ _. refl);
         opens = λ n h. inl (f .opens n h);
       }
 
@@ -98,6 +100,7 @@ module _ (k : Table) where
         taken = omega arith;
         jobs = refl;
         sections = omega arith;
+        serials = λ m. (λ e. cond-true (eqb (n .entries) m) 1 0 (eq-eqb (n .entries) m (sym e)), λ no. cond-false (eqb (n .entries) m) 1 0 (ne-eqb (n .entries) m (λ e. no (sym e))));
         opens = λ m h. elim (open-more m x (n .entries) q qs h) [ inl a ↦ inl a | inr e ↦ inr (e, refl) ];
       })
       (λ _. told-refused old TooManyEntries (Enter x)))
@@ -135,6 +138,7 @@ module _ (k : Table) where
         taken = omega (arith, et);
         jobs = omega (arith, f .jobs, f .finishes, er, ee);
         sections = omega (arith, f .sections, f .entries, f .leaves, et, less);
+        serials = λ n. (λ _. refl, λ _. refl);
         opens = λ m h. inl (elim (or-cases (holds m (closed (q .opened))) (isOpen m qs) (f .opens m h))
             [ inl a ↦ or-left _ _ (closed-holds m (q .opened) a) | inr b ↦ or-right (holds m (q .opened)) _ b ]);
       })
@@ -168,6 +172,7 @@ module _ (k : Table) where
         taken = omega (arith, et);
         jobs = omega (arith, f .jobs, f .finishes, er, ee);
         sections = omega (arith, f .sections, f .entries, f .leaves, et, none);
+        serials = λ n. (λ _. refl, λ _. refl);
         opens = λ m h. inl (or-right (holds m (q .opened)) _ (f .opens m h));
       })
       (λ _. told-refused old StillOpen Finish)

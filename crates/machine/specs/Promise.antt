@@ -18,7 +18,7 @@ use Rattle.machine.specs.declared.call.Answer.{Answer}
 use Rattle.machine.specs.declared.call.Answer.the-variants.{Advanced, Granted, Running, Refused}
 use Rattle.machine.specs.declared.call.Call.the-variants.{Advance, Enter, Leave, Finish}
 use Rattle.machine.specs.State.{Table, Open, Job, State, relative, cost, sectionAt, inherited}
-use Rattle.machine.specs.Run.{Event, history, reached, total, runTime, ended, Expires, Somewhere, Kept}
+use Rattle.machine.specs.Run.{Event, history, reached, total, runTime, given, ended, Expires, Somewhere, Kept}
 
 -- down the stack absolute deadlines rise strictly, and each preempted task's inherited deadline exceeds the D of the task just above
 abbrev pub Stacked : Table → List Job → Type 0
@@ -127,6 +127,7 @@ pub record Balance (k : Table) (h : List Event) (s : State) : Type 0 where
   pub strangers : (i : ℕ) → length (k .tasks) ≤ i → waits i (s .waiting) + isOut i (s .released) + stands i (s .stack) ≡ 0
   pub jobs : s .counts .releases ≡ s .counts .finishes + s .counts .expiries + length (s .released) + length (s .stack)
   pub sections : s .counts .entries ≡ s .counts .leaves + s .counts .taken + openCount (s .stack)
+  pub fresh : (n : ℕ) → (n < s .counts .entries → given n h ≡ 1) × (s .counts .entries ≤ n → given n h ≡ 0)
   pub once : (n : ℕ) → ended n h ≤ 1
 
 -- every job that expired has run exactly C ticks, where none has run longer and no stay was too long

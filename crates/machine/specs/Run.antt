@@ -39,7 +39,7 @@ history k cs = historyFrom k (start k) cs
 abbrev pub reached : Table → List Call → State
 reached k cs = stateFrom k (start k) cs
 
--- how far a call moved the clock
+-- how far a call moved the clock; only an accepted advance moves it
 abbrev pub moved : Event → ℕ
 moved e = e .after .clock - e .before .clock
 
@@ -76,6 +76,16 @@ abbrev pub isOpen : ℕ → List Job → Bool
 isOpen n [] = false
 isOpen n (j ∷ js) = holds n (j .opened) || isOpen n js
 
+-- how often a grant with a serial was given
+abbrev pub gives : ℕ → Answer → ℕ
+gives n (Advanced e r i) = 0
+gives n (Granted g) = cond (eqb (g .serial) n) 1 0
+gives n (Running i) = 0
+gives n (Refused r) = 0
+
+abbrev pub given : ℕ → List Event → ℕ
+given n h = total (λ e. gives n (e .answer)) h
+
 -- how often the grant with a serial ended: it was open before a call and not after it
 abbrev pub ended : ℕ → List Event → ℕ
 ended n h = total (λ e. cond (isOpen n (e .before .stack)) (cond (isOpen n (e .after .stack)) 0 1) 0) h
@@ -109,13 +119,14 @@ abbrev pub Somewhere : (Event → Type 0) → List Event → Type 0
 Somewhere P [] = ⊥
 Somewhere P (e ∷ es) = P e ⊎ Somewhere P es
 
--- no job has run past its C, and no stay has gone past its section's length
+-- the stay of a grant has not gone past its section's length
 abbrev pub GrantFits : Table → List Event → Answer → Type 0
 GrantFits k h (Advanced e r i) = Unit {0}
 GrantFits k h (Granted g) = stay (g .serial) h ≤ sectionAt k (g .section) .length
 GrantFits k h (Running i) = Unit {0}
 GrantFits k h (Refused r) = Unit {0}
 
+-- no job has run past its C, and no stay has gone past its section's length
 pub record Kept (k : Table) (h : List Event) : Type 0 where
   pub jobs : (i d : ℕ) → runTime i d h ≤ cost k i
   pub stays : (e : Event) → Somewhere (λ x. x ≡ e) h → GrantFits k h (e .answer)
