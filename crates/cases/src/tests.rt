@@ -3,6 +3,18 @@ use admission::admit::admit;
 use admission::refusal::Refusal as Unfit;
 use admission::refusal::RefusalDebug as UnfitDebug;
 use admission::refusal::RefusalPartialEq as UnfitPartialEq;
+use queue::Answer;
+use queue::Call;
+use queue::HeapAsQueue;
+use queue::HeapQueue;
+use queue::ListAsQueue;
+use queue::ListQueue;
+use queue::QueueEntry;
+use queue::Released;
+use queue::ReleasedEntry;
+use queue::Waiting;
+use queue::WaitingEntry;
+use queue::both;
 use std::test::*;
 use table::limits::MOST_SECTIONS;
 use table::limits::MOST_TASKS;
@@ -103,4 +115,113 @@ fn rules_of_records_come_first() -> Result<(), Fail> {
         sections: none,
     };
     check_eq(admit(&[task], &[]).err(), Some(Unfit::Records))
+}
+
+/// The task that was taken, if one was.
+fn taken<E: QueueEntry>(answer: Answer<E>) -> Option<usize> {
+    match answer {
+        Answer::Inserted(_) => None,
+        Answer::Taken(None) => None,
+        Answer::Taken(Some(e)) => Some(e.task()),
+    }
+}
+
+/// Makes the calls on a list and on a heap over the lent entries, and writes down what each answers.
+fn answer_calls<E: QueueEntry>(
+    calls: &[Call<E>],
+    entries: (&mut [E], &mut [E]),
+    answers: (&mut [Answer<E>], &mut [Answer<E>]),
+) -> bool {
+    let (in_list, in_heap) = entries;
+    let (from_list, from_heap) = answers;
+    let mut list = ListQueue::new(in_list);
+    let mut heap = HeapQueue::new(in_heap);
+    both(calls, &mut list, &mut heap, from_list, from_heap)
+}
+
+#[test]
+fn both_queues_give_out_waiting_tasks_alike() -> Result<(), Fail> {
+    let first = Waiting {
+        release: 7,
+        task: 4,
+    };
+    let calls = [
+        Call::Insert(first),
+        Call::Insert(Waiting {
+            release: 9,
+            task: 0,
+        }),
+        Call::Insert(Waiting {
+            release: 7,
+            task: 2,
+        }),
+        Call::Take,
+        Call::Take,
+        Call::Take,
+    ];
+    let (mut in_list, mut in_heap) = ([first; 3], [first; 3]);
+    let mut from_list = [Answer::Taken(None); 6];
+    let mut from_heap = [Answer::Taken(None); 6];
+    check(answer_calls(
+        &calls,
+        (&mut in_list, &mut in_heap),
+        (&mut from_list, &mut from_heap),
+    ))?;
+    check_eq(
+        (taken(from_list[3]), taken(from_heap[3])),
+        (Some(2), Some(2)),
+    )?;
+    check_eq(
+        (taken(from_list[4]), taken(from_heap[4])),
+        (Some(4), Some(4)),
+    )?;
+    check_eq(
+        (taken(from_list[5]), taken(from_heap[5])),
+        (Some(0), Some(0)),
+    )
+}
+
+#[test]
+fn both_queues_give_out_released_tasks_alike() -> Result<(), Fail> {
+    let first = Released {
+        deadline: 9,
+        relative: 5,
+        task: 0,
+    };
+    let calls = [
+        Call::Insert(first),
+        Call::Insert(Released {
+            deadline: 9,
+            relative: 3,
+            task: 7,
+        }),
+        Call::Insert(Released {
+            deadline: 8,
+            relative: 6,
+            task: 1,
+        }),
+        Call::Take,
+        Call::Take,
+        Call::Take,
+    ];
+    let (mut in_list, mut in_heap) = ([first; 3], [first; 3]);
+    let mut from_list = [Answer::Taken(None); 6];
+    let mut from_heap = [Answer::Taken(None); 6];
+    check(answer_calls(
+        &calls,
+        (&mut in_list, &mut in_heap),
+        (&mut from_list, &mut from_heap),
+    ))?;
+    check_eq(
+        (taken(from_list[3]), taken(from_heap[3])),
+        (Some(1), Some(1)),
+    )?;
+    check_eq(
+        (taken(from_list[4]), taken(from_heap[4])),
+        (Some(7), Some(7)),
+    )?;
+    check_eq(
+        (taken(from_list[5]), taken(from_heap[5])),
+        (Some(0), Some(0)),
+    )
 }

@@ -16,6 +16,7 @@ use Rattle.table.specs.declared.records.SectionRecord.{SectionRecord}
 use Rattle.table.specs.declared.refusal.Rule.the-variants.{Times}
 use Rattle.table.specs.declared.refusal.Refusal.{Refusal as Unread}
 use Rattle.table.specs.declared.refusal.Refusal.the-variants.{Broken}
+use Rattle.table.specs.Limits.{mostTasks, mostSections}
 use Rattle.table.specs.Judged.{judged as read}
 use Rattle.table.specs.Record.{textTasks, textSections}
 use Rattle.admission.specs.declared.refusal.Refusal.{Refusal as NotAdmitted}
@@ -35,9 +36,9 @@ use Rattle.machine.specs.Run.{Event, history, reached, moved, runTime, Expires
 abbrev pub line : String → List ℕ → List ℕ
 line s rest = codes s ++ (10 ∷ rest)
 
--- a text is read into slices for 32 tasks and 64 sections
+-- a text is read into slices for as many tasks and sections as a table can have
 abbrev pub reads : List ℕ → Result Sizes Unread
-reads text = read text 32 64
+reads text = read text mostTasks mostSections
 
 -- the idle instant of a text's records, or why they are not admitted
 abbrev pub verdict : List ℕ → Result ℕ NotAdmitted
