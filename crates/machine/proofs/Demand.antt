@@ -5,8 +5,8 @@ use native.Mathlib.Omega.{arith}
 use native.Mathlib.Nat.{div-eq-of-lt, add-div-right, div-mul-le-self, le-div-iff-mul-le, mul-le-mul-left, mul-zero}
 use lib.ListN.{length}
 use Rattle.admission.specs.Demand.{demandOf}
-use Rattle.machine.specs.State.{Table, relative, period, cost}
-use Rattle.machine.proofs.Tables.{Fit, taskAt}
+use Rattle.machine.specs.State.{taskAt, Table, relative, period, cost}
+use Rattle.machine.proofs.Tables.{Fit}
 
 -- the jobs of task i with deadlines from dl on, up to d
 unfoldable pub dem : Table → ℕ → ℕ → ℕ → ℕ

@@ -14,10 +14,10 @@ use Rattle.queue.specs.declared.released.Released.{Released}
 use Rattle.queue.specs.Order.{insertSorted}
 use Rattle.queue.specs.Entries.{waitingBefore, releasedBefore}
 use Rattle.admission.specs.Demand.{demand, demandOf, reaches}
-use Rattle.machine.specs.State.{Table, Open, Job, relative, period, cost, sectionAt, inherited, firstReleases}
+use Rattle.machine.specs.State.{taskAt, Table, Open, Job, relative, period, cost, sectionAt, inherited, firstReleases}
 use Rattle.machine.specs.Step.{goes, putBack, releaseOf}
 use Rattle.machine.proofs.Lists.{tot, Sorted, Rising, tot-insert, tot-le, all-insert, all-map, all-map2}
-use Rattle.machine.proofs.Tables.{Fit, taskAt, demand-is}
+use Rattle.machine.proofs.Tables.{Fit, demand-is}
 use Rattle.machine.proofs.Demand.{dem, dem-none, dem-some, dem-from}
 use Rattle.machine.proofs.Shape.{EntryOk, JobOk, Inward, Shape, Settled, known}
 use Rattle.machine.proofs.Moves.{nextOf, begin, withOpen, above-all}

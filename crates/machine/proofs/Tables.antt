@@ -22,12 +22,8 @@ use Rattle.admission.specs.Verdict.{Admitted}
 use Rattle.admission.proofs.SoundFacts.{judgeable-if-sound}
 use Rattle.admission.proofs.Beyond.{fits-ever}
 use Rattle.admission.proofs.Several.{demand-more}
-use Rattle.machine.specs.State.{Table, relative, period, cost, sectionAt, firstReleases}
+use Rattle.machine.specs.State.{taskAt, Table, relative, period, cost, sectionAt, firstReleases}
 use Rattle.machine.proofs.Lists.{tot}
-
--- a task's record
-abbrev pub taskAt : Table → ℕ → TaskRecord
-taskAt k i = getD (k .tasks) i (record { name = record { first = 0; count = 0 }; deadline = 0; period = 0; cost = 0; sections = record { first = 0; count = 0 } })
 
 -- what the proofs over runs know of a table
 pub record Fit (k : Table) : Type 0 where

@@ -17,15 +17,18 @@ pub record Table : Type 0 where
   pub tasks : List TaskRecord
   pub sections : List SectionRecord
 
--- a task's D, T and C
+-- a task's record, and its D, T and C
+abbrev pub taskAt : Table → ℕ → TaskRecord
+taskAt k i = getD (k .tasks) i (record { name = record { first = 0; count = 0 }; deadline = 0; period = 0; cost = 0; sections = record { first = 0; count = 0 } })
+
 abbrev pub relative : Table → ℕ → ℕ
-relative k i = getD (k .tasks) i (record { name = record { first = 0; count = 0 }; deadline = 0; period = 0; cost = 0; sections = record { first = 0; count = 0 } }) .deadline
+relative k i = taskAt k i .deadline
 
 abbrev pub period : Table → ℕ → ℕ
-period k i = getD (k .tasks) i (record { name = record { first = 0; count = 0 }; deadline = 0; period = 0; cost = 0; sections = record { first = 0; count = 0 } }) .period
+period k i = taskAt k i .period
 
 abbrev pub cost : Table → ℕ → ℕ
-cost k i = getD (k .tasks) i (record { name = record { first = 0; count = 0 }; deadline = 0; period = 0; cost = 0; sections = record { first = 0; count = 0 } }) .cost
+cost k i = taskAt k i .cost
 
 -- a section's record
 abbrev pub sectionAt : Table → ℕ → SectionRecord
