@@ -1,5 +1,7 @@
 //! Admission: whether the tasks of a table meet every deadline, however their releases fall.
 
+#![tactic(auto)]
+
 pub mod admit;
 mod check;
 mod demand;

@@ -2,6 +2,9 @@
 //!
 //! A case is two numbers, how many task records and section records are lent, and a text with `\n`, `\\` and `\xHH` for the bytes that
 //! a line cannot hold. The answers were made by a separate program (tools/oracle.py), which knows the rules and not this code.
+
+#![tactic(auto)]
+
 use admission::admit::admit;
 use anyhow::Context;
 use std::alloc::Global;

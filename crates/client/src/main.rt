@@ -1,6 +1,9 @@
 //! Firmware in small: a table is read and admitted, a core is made from the pass and two queues, and is told what happens.
 //!
 //! The two queues are of two kinds. No proof file stands beside this program: what a call asks of its caller, the core that was made has.
+
+#![tactic(auto)]
+
 ghost use Rattle.admission.specs.Passed.{Passed};
 ghost use Rattle.scheduler.specs.Fitted.{Fitted};
 

@@ -1,4 +1,7 @@
 //! Lists a task table from standard input, with its verdict.
+
+#![tactic(auto)]
+
 use admission::admit::admit;
 use std::io;
 use std::io::Read;

@@ -27,9 +27,9 @@ fn parent_of(i: usize) -> usize
 /// Moves the entry at `start`, the last of the heap, up to its place.
 fn sift_up<E: QueueEntry>(entries: &mut [E], start: usize)
     requires within { start < length entries.old }
-    requires shape { Above order.before entries.old (start + 1) start }
-    ensures shape { Heap order.before entries.new (start + 1) }
-    ensures same { sorted order.before (take (start + 1) entries.new) ≡ sorted order.before (take (start + 1) entries.old) }
+    requires shape { Above E.order.before entries.old (start + 1) start }
+    ensures shape { Heap E.order.before entries.new (start + 1) }
+    ensures same { sorted E.order.before (take (start + 1) entries.new) ≡ sorted E.order.before (take (start + 1) entries.old) }
 {
     let mut i = start;
     while i > 0 {
@@ -48,7 +48,7 @@ fn sift_up<E: QueueEntry>(entries: &mut [E], start: usize)
 /// The child of `i` that comes first.
 fn least_child<E: QueueEntry>(entries: &[E], len: usize, i: usize) -> usize
     requires { (2 * i + 1 < len) × (len ≤ length entries.now) × (len ≤ limit) }
-    ensures { Least order.before entries.now len i result }
+    ensures { Least E.order.before entries.now len i result }
 {
     let left = 2 * i + 1;
     if left + 1 == len {
@@ -63,9 +63,9 @@ fn least_child<E: QueueEntry>(entries: &[E], len: usize, i: usize) -> usize
 /// Moves the entry at the root down to its place.
 fn sift_down<E: QueueEntry>(entries: &mut [E], len: usize)
     requires within { (len ≤ length entries.old) × (len ≤ limit) }
-    requires shape { Beneath order.before entries.old len 0 }
-    ensures shape { Heap order.before entries.new len }
-    ensures same { sorted order.before (take len entries.new) ≡ sorted order.before (take len entries.old) }
+    requires shape { Beneath E.order.before entries.old len 0 }
+    ensures shape { Heap E.order.before entries.new len }
+    ensures same { sorted E.order.before (take len entries.new) ≡ sorted E.order.before (take len entries.old) }
 {
     let mut i = 0;
     while 2 * i + 1 < len {
@@ -84,8 +84,8 @@ fn sift_down<E: QueueEntry>(entries: &mut [E], len: usize)
 impl<'a, E: QueueEntry> HeapQueue<'a, E> {
     /// An empty queue with room for as many entries as are lent, and for 32 at most.
     pub fn new(entries: &'a mut [E]) -> HeapQueue<'a, E>
-        ensures ordered { HeapOrdered order order result }
-        ensures list { heap_list order result ≡ [] }
+        ensures ordered { HeapOrdered E.order E.order result }
+        ensures list { heap_list E.order result ≡ [] }
         ensures capacity { heap_room result ≡ min (length entries.old) limit }
     {
         HeapQueue { entries, len: 0 }
@@ -93,7 +93,7 @@ impl<'a, E: QueueEntry> HeapQueue<'a, E> {
 
     fn refusal(&self, e: E) -> Option<Refusal>
         requires { self.now.len ≤ length self.now.entries.now }
-        ensures { result ≡ refusal_of order (heap_room self.now) e (heap_list order self.now) }
+        ensures { result ≡ refusal_of E.order (heap_room self.now) e (heap_list E.order self.now) }
     {
         scan::refusal(self.entries, self.len, e)
     }
@@ -102,13 +102,13 @@ impl<'a, E: QueueEntry> HeapQueue<'a, E> {
 impl<'a, E: QueueEntry> Queue for HeapQueue<'a, E> {
     type Entry = E;
 
-    ghost list = { heap_list E.QueueEntry.order };
+    ghost list = { heap_list E.order };
 
     ghost capacity = { heap_room };
 
-    ghost ordered = { HeapOrdered E.QueueEntry.order };
+    ghost ordered = { HeapOrdered E.order };
 
-    ghost sound = { heap_sound E.QueueEntry.order };
+    ghost sound = { heap_sound E.order };
 
     fn insert(&mut self, e: E) -> Result<(), Refusal> {
         if let Some(refusal) = self.refusal(e) {

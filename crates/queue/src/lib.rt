@@ -3,6 +3,9 @@
 //! A queue means a capacity that never changes and a list of entries in rising order, no two of one task.
 //! The trait `Queue` says what each call does to that list; `ListQueue` and `HeapQueue` both meet it.
 //! Nothing here allocates.
+
+#![tactic(auto)]
+
 ghost use Rattle.std.specs.Prelude.{◌≡◌, ℕ, List, length};
 ghost use Rattle.queue.specs.Order.{Order};
 ghost use Rattle.queue.specs.Meaning.{Sound, first_of, rest_of};
@@ -43,32 +46,32 @@ pub trait Queue {
 
     /// Puts the entry in its place, or refuses it and leaves the queue as it was.
     fn insert(&mut self, e: Self::Entry) -> Result<(), Refusal>
-        requires { ordered Self.Entry.QueueEntry.order self.old }
-        ensures ordered { ordered Self.Entry.QueueEntry.order self.new }
+        requires { ordered Self.Entry.order self.old }
+        ensures ordered { ordered Self.Entry.order self.new }
         ensures capacity { capacity self.new ≡ capacity self.old }
-        ensures value { result ≡ answered Self.Entry.QueueEntry.order (capacity self.old) e (list self.old) }
-        ensures after { list self.new ≡ inserted Self.Entry.QueueEntry.order (capacity self.old) e (list self.old) };
+        ensures value { result ≡ answered Self.Entry.order (capacity self.old) e (list self.old) }
+        ensures after { list self.new ≡ inserted Self.Entry.order (capacity self.old) e (list self.old) };
 
     /// The first entry, if there is one.
     fn first(&self) -> Option<Self::Entry>
-        requires { ordered Self.Entry.QueueEntry.order self.now }
+        requires { ordered Self.Entry.order self.now }
         ensures { result ≡ first_of (list self.now) };
 
     /// Removes the first entry, if there is one, and answers it.
     fn take(&mut self) -> Option<Self::Entry>
-        requires { ordered Self.Entry.QueueEntry.order self.old }
-        ensures ordered { ordered Self.Entry.QueueEntry.order self.new }
+        requires { ordered Self.Entry.order self.old }
+        ensures ordered { ordered Self.Entry.order self.new }
         ensures capacity { capacity self.new ≡ capacity self.old }
         ensures value { result ≡ first_of (list self.old) }
         ensures after { list self.new ≡ rest_of (list self.old) };
 
     /// How many entries there are.
     fn count(&self) -> usize
-        requires { ordered Self.Entry.QueueEntry.order self.now }
+        requires { ordered Self.Entry.order self.now }
         ensures { result ≡ length (list self.now) };
 
     /// How many entries there can be.
     fn capacity(&self) -> usize
-        requires { ordered Self.Entry.QueueEntry.order self.now }
+        requires { ordered Self.Entry.order self.now }
         ensures { result ≡ capacity self.now };
 }

@@ -19,8 +19,8 @@ pub struct ListQueue<'a, E> {
 /// Moves the entries that `e` comes before one place on, and puts `e` in front of them.
 fn put<E: QueueEntry>(entries: &mut [E], len: usize, e: E)
     requires within { len < length entries.old }
-    requires rising { Rising order.before (take len entries.old) }
-    ensures { take (len + 1) entries.new ≡ insert_sorted order.before e (take len entries.old) }
+    requires rising { Rising E.order.before (take len entries.old) }
+    ensures { take (len + 1) entries.new ≡ insert_sorted E.order.before e (take len entries.old) }
 {
     let mut i = len;
     while i > 0 && e.is_before(entries[i - 1]) {
@@ -43,7 +43,7 @@ fn shift<E: QueueEntry>(entries: &mut [E], len: usize)
 impl<'a, E: QueueEntry> ListQueue<'a, E> {
     /// An empty queue with room for as many entries as are lent, and for 32 at most.
     pub fn new(entries: &'a mut [E]) -> ListQueue<'a, E>
-        ensures ordered { ListOrdered order result }
+        ensures ordered { ListOrdered E.order result }
         ensures list { list_of result ≡ [] }
         ensures capacity { list_room result ≡ min (length entries.old) limit }
     {
@@ -52,7 +52,7 @@ impl<'a, E: QueueEntry> ListQueue<'a, E> {
 
     fn refusal(&self, e: E) -> Option<Refusal>
         requires { self.now.len ≤ length self.now.entries.now }
-        ensures { result ≡ refusal_of order (list_room self.now) e (list_of self.now) }
+        ensures { result ≡ refusal_of E.order (list_room self.now) e (list_of self.now) }
     {
         scan::refusal(self.entries, self.len, e)
     }

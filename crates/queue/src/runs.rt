@@ -20,11 +20,11 @@ pub enum Answer<E> {
 
 /// Makes one call.
 fn make<Q: Queue>(call: Call<Q::Entry>, q: &mut Q) -> Answer<Q::Entry>
-    requires { ordered Q.Entry.QueueEntry.order q.old }
-    ensures ordered { ordered Q.Entry.QueueEntry.order q.new }
-    ensures capacity { capacity q.new ≡ capacity q.old }
-    ensures value { result ≡ answer_to Q.Entry.QueueEntry.order (capacity q.old) call (list q.old) }
-    ensures after { list q.new ≡ list_after Q.Entry.QueueEntry.order (capacity q.old) call (list q.old) }
+    requires { Q.ordered Q.Entry.order q.old }
+    ensures ordered { Q.ordered Q.Entry.order q.new }
+    ensures capacity { Q.capacity q.new ≡ Q.capacity q.old }
+    ensures value { result ≡ answer_to Q.Entry.order (Q.capacity q.old) call (Q.list q.old) }
+    ensures after { Q.list q.new ≡ list_after Q.Entry.order (Q.capacity q.old) call (Q.list q.old) }
 {
     match call {
         Call::Insert(e) => Answer::Inserted(q.insert(e)),
@@ -42,12 +42,12 @@ fn write<T: Copy>(answers: &mut [T], i: usize, answer: T)
 
 /// Makes the calls in their order, and writes down what each answers.
 fn run<Q: Queue>(calls: &[Call<Q::Entry>], q: &mut Q, answers: &mut [Answer<Q::Entry>])
-    requires ordered { ordered Q.Entry.QueueEntry.order q.old }
+    requires ordered { Q.ordered Q.Entry.order q.old }
     requires room { length answers.old ≡ length calls.now }
-    ensures ordered { ordered Q.Entry.QueueEntry.order q.new }
-    ensures capacity { capacity q.new ≡ capacity q.old }
-    ensures value { answers.new ≡ answers_to Q.Entry.QueueEntry.order (capacity q.old) calls.now (list q.old) }
-    ensures after { list q.new ≡ list_after_all Q.Entry.QueueEntry.order (capacity q.old) calls.now (list q.old) }
+    ensures ordered { Q.ordered Q.Entry.order q.new }
+    ensures capacity { Q.capacity q.new ≡ Q.capacity q.old }
+    ensures value { answers.new ≡ answers_to Q.Entry.order (Q.capacity q.old) calls.now (Q.list q.old) }
+    ensures after { Q.list q.new ≡ list_after_all Q.Entry.order (Q.capacity q.old) calls.now (Q.list q.old) }
 {
     for i in 0..calls.len() {
         let call = calls[i];
@@ -64,13 +64,13 @@ fn run_both<P: Queue, Q: Queue<Entry = P::Entry>>(
     from_p: &mut [Answer<P::Entry>],
     from_q: &mut [Answer<P::Entry>],
 )
-    requires ordered { P.Queue.ordered P.Entry.QueueEntry.order p.old × Q.Queue.ordered P.Entry.QueueEntry.order q.old }
-    requires empty { (P.Queue.list p.old ≡ []) × (Q.Queue.list q.old ≡ []) }
-    requires capacity { P.Queue.capacity p.old ≡ Q.Queue.capacity q.old }
+    requires ordered { P.ordered P.Entry.order p.old × Q.ordered P.Entry.order q.old }
+    requires empty { (P.list p.old ≡ []) × (Q.list q.old ≡ []) }
+    requires capacity { P.capacity p.old ≡ Q.capacity q.old }
     requires room { (length from_p.old ≡ length calls.now) × (length from_q.old ≡ length calls.now) }
-    ensures ordered { P.Queue.ordered P.Entry.QueueEntry.order p.new × Q.Queue.ordered P.Entry.QueueEntry.order q.new }
-    ensures capacity { (P.Queue.capacity p.new ≡ P.Queue.capacity p.old) × (Q.Queue.capacity q.new ≡ Q.Queue.capacity q.old) }
-    ensures law { Alike P.Entry.QueueEntry.order (P.Queue.capacity p.old) calls.now from_p.new from_q.new (P.Queue.list p.new) (Q.Queue.list q.new) }
+    ensures ordered { P.ordered P.Entry.order p.new × Q.ordered P.Entry.order q.new }
+    ensures capacity { (P.capacity p.new ≡ P.capacity p.old) × (Q.capacity q.new ≡ Q.capacity q.old) }
+    ensures law { Alike P.Entry.order (P.capacity p.old) calls.now from_p.new from_q.new (P.list p.new) (Q.list q.new) }
 {
     run(calls, p, from_p);
     run(calls, q, from_q);
@@ -87,12 +87,12 @@ pub fn both<P: Queue, Q: Queue<Entry = P::Entry>>(
     from_p: &mut [Answer<P::Entry>],
     from_q: &mut [Answer<P::Entry>],
 ) -> bool
-    requires ordered { P.Queue.ordered P.Entry.QueueEntry.order p.old × Q.Queue.ordered P.Entry.QueueEntry.order q.old }
-    ensures ordered { P.Queue.ordered P.Entry.QueueEntry.order p.new × Q.Queue.ordered P.Entry.QueueEntry.order q.new }
-    ensures capacity { (P.Queue.capacity p.new ≡ P.Queue.capacity p.old) × (Q.Queue.capacity q.new ≡ Q.Queue.capacity q.old) }
-    ensures value { result ≡ comparable (P.Queue.list p.old) (Q.Queue.list q.old) (P.Queue.capacity p.old) (Q.Queue.capacity q.old) (length calls.now) (length from_p.old) (length from_q.old) }
-    ensures same { result ≡ false → (P.Queue.list p.new ≡ P.Queue.list p.old) × (Q.Queue.list q.new ≡ Q.Queue.list q.old) × (from_p.new ≡ from_p.old) × (from_q.new ≡ from_q.old) }
-    ensures law { result ≡ true → Alike P.Entry.QueueEntry.order (P.Queue.capacity p.old) calls.now from_p.new from_q.new (P.Queue.list p.new) (Q.Queue.list q.new) }
+    requires ordered { P.ordered P.Entry.order p.old × Q.ordered P.Entry.order q.old }
+    ensures ordered { P.ordered P.Entry.order p.new × Q.ordered P.Entry.order q.new }
+    ensures capacity { (P.capacity p.new ≡ P.capacity p.old) × (Q.capacity q.new ≡ Q.capacity q.old) }
+    ensures value { result ≡ comparable (P.list p.old) (Q.list q.old) (P.capacity p.old) (Q.capacity q.old) (length calls.now) (length from_p.old) (length from_q.old) }
+    ensures same { result ≡ false → (P.list p.new ≡ P.list p.old) × (Q.list q.new ≡ Q.list q.old) × (from_p.new ≡ from_p.old) × (from_q.new ≡ from_q.old) }
+    ensures law { result ≡ true → Alike P.Entry.order (P.capacity p.old) calls.now from_p.new from_q.new (P.list p.new) (Q.list q.new) }
 {
     if p.count() != 0 || q.count() != 0 {
         return false;

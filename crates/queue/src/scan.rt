@@ -20,7 +20,7 @@ pub(super) fn room(lent: usize) -> usize
 /// A scan of at most 32 entries: a set of tasks beside them would have to be kept by every call, and is not needed at this size.
 fn holds<E: QueueEntry>(entries: &[E], len: usize, task: usize) -> bool
     requires { len ≤ length entries.now }
-    ensures { result ≡ queued order.task_of task (take len entries.now) }
+    ensures { result ≡ queued E.order.task_of task (take len entries.now) }
 {
     for i in 0..len {
         if entries[i].task() == task {
@@ -46,7 +46,7 @@ fn choose(unfit: bool, full: bool) -> Option<Refusal>
 /// Why the entry cannot join the first `len` entries, if it cannot.
 pub(super) fn refusal<E: QueueEntry>(entries: &[E], len: usize, e: E) -> Option<Refusal>
     requires { len ≤ length entries.now }
-    ensures { result ≡ refusal_of order (min (length entries.now) limit) e (take len entries.now) }
+    ensures { result ≡ refusal_of E.order (min (length entries.now) limit) e (take len entries.now) }
 {
     let task = e.task();
     let unfit = task >= LIMIT || holds(entries, len, task);

@@ -3,6 +3,8 @@
 //! `run_core::Core` has the calls and the questions, `replay::replay` makes a list of calls on a new core and carries what is promised of every run.
 //! Nothing here allocates: the queues' memory is lent, and the core keeps its records and its stack in fixed arrays.
 
+#![tactic(auto)]
+
 pub mod grant;
 pub mod question;
 mod records;

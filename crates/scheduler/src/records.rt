@@ -31,7 +31,7 @@ fn lower(n: u32, level: Option<u32>) -> u32
 }
 
 /// Whether two places among the sections are the same.
-fn same_place_lem(a: Option<usize>, b: Option<usize>) -> bool
+fn same_place(a: Option<usize>, b: Option<usize>) -> bool
     ensures { result ≡ same_place a b }
 {
     match (a, b) {
@@ -83,7 +83,7 @@ impl Records {
             return false;
         }
         let record = &self.sections[section];
-        record.task == job.task && same_place_lem(record.around, job.innermost())
+        record.task == job.task && same_place(record.around, job.innermost())
     }
 
     /// The level of a section.

@@ -14,7 +14,7 @@ use Rattle.table.specs.Form.{form_fault}
 use Rattle.table.specs.Lines.{lines_of}
 use Rattle.table.specs.Head.{line_items}
 use Rattle.table.specs.Rule.{opens}
-use Rattle.table.specs.Grammar.{none, Line, render, render_all}
+use Rattle.table.specs.Grammar.{Line, render, render_all}
 use Rattle.table.specs.Breach.{Good, AllGood, past, past_all, count}
 use Rattle.table.specs.Meant.{task_meant, tasks_meant, sections_meant, all_sections_meant}
 use Rattle.table.specs.Judged.{unless, line_judged, lines_judged, judged, room_for, nothing_read}

@@ -98,7 +98,7 @@ fn in_closed(depth: usize, b: u8) -> Move
     }
 }
 
-fn in_inner_lem(depth: usize, b: u8) -> Move
+fn in_inner(depth: usize, b: u8) -> Move
     ensures { result ≡ in_inner depth b }
 {
     match b as char {
@@ -144,7 +144,7 @@ impl State {
             (State::Start(field), '0'..='9') => Move::Go(State::Digits(field)),
             (State::Digits(field), _) => in_digits(field, b),
             (State::Closed(depth), _) => in_closed(depth, b),
-            (State::Inner(depth), _) => in_inner_lem(depth, b),
+            (State::Inner(depth), _) => in_inner(depth, b),
             (State::Length(around), _) => in_length(around, b),
             (State::Body(around), ' ') => Move::Go(State::Member(around)),
             (State::Member(around), _) => in_member(around, b),

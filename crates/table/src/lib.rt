@@ -1,5 +1,7 @@
 //! Task tables: their records, the text that they are read from, and the levels of sections.
 
+#![tactic(auto)]
+
 mod check;
 mod fill;
 mod form;

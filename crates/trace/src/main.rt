@@ -1,6 +1,9 @@
 //! Runs a table from standard input call by call, and prints what each call and at the end each question answers.
 //!
 //! Standard input holds a table, an empty line, then calls, one a line. All calls are made by one replay.
+
+#![tactic(auto)]
+
 ghost use Rattle.admission.specs.Passed.{Passed};
 ghost use Rattle.queue.specs.Entries.{waiting_order, released_order};
 ghost use Rattle.scheduler.specs.Fitted.{Fitted};

@@ -4,16 +4,16 @@ use Rattle.admission.specs.Sound.{levels_sound}
 use Rattle.admission.proofs.Runs.{level_is, levels_step}
 use Rattle.admission.proofs.check.levels_sound.Goals as goal
 
-pub returns-then-not-same-level : goal.returns-then-not-same-level
-returns-then-not-same-level c =
+pub returns-then-not-same_level : goal.returns-then-not-same_level
+returns-then-not-same_level c =
     sym (levels_step c.args.tasks.now c.args.sections.now c.args.sections.now c.loop-section.section-index _ c.loop-section-test.true _
-    (level_is c.args.tasks.now c.args.sections.now _ _ _ _ c.if-not-same-level.ensures c.section-level.ensures c.letter-levels-levels.ensures))
+    (level_is c.args.tasks.now c.args.sections.now _ _ _ _ c.if-not-same_level.ensures c.section_level.ensures c.letter_levels-levels.ensures))
     ∙ c.loop-section.invariant
 
 pub loop-section-preserved : goal.loop-section-preserved
 loop-section-preserved c =
     sym (levels_step c.args.tasks.now c.args.sections.now c.args.sections.now c.loop-section.section-index _ c.loop-section-test.true _
-    (level_is c.args.tasks.now c.args.sections.now _ _ _ _ c.if-not-same-level.ensures c.section-level.ensures c.letter-levels-levels.ensures))
+    (level_is c.args.tasks.now c.args.sections.now _ _ _ _ c.if-not-same_level.ensures c.section_level.ensures c.letter_levels-levels.ensures))
     ∙ c.loop-section.invariant
 
 pub returns : goal.returns

@@ -4,18 +4,18 @@ use Rattle.admission.specs.Sound.{sound}
 use Rattle.admission.proofs.Runs.{whole_levels, whole_tasks}
 use Rattle.admission.proofs.check.sound_records.Goals as goal
 
-pub returns-then-is-empty : goal.returns-then-is-empty
+pub returns-then-is_empty : goal.returns-then-is_empty
 unfolding sound
-returns-then-is-empty c = let either = c.then-is-empty.either in grind (arith, nat_tests)
+returns-then-is_empty c = let either = c.then-is_empty.either in grind (arith, nat_tests)
 
-pub returns-then-tasks-sound : goal.returns-then-tasks-sound
-returns-then-tasks-sound c =
-    c.levels-sound.ensures
-    ∙ whole_levels c.args.tasks.now c.args.sections.now c.if-is-empty.ensures c.if-tasks-gt-MOST-TASKS.false c.if-sections-gt-MOST-SECTIONS.false
-    c.if-tasks-sound.ensures
+pub returns-then-tasks_sound : goal.returns-then-tasks_sound
+returns-then-tasks_sound c =
+    c.levels_sound.ensures
+    ∙ whole_levels c.args.tasks.now c.args.sections.now c.if-is_empty.ensures c.if-tasks-gt-MOST_TASKS.false c.if-sections-gt-MOST_SECTIONS.false
+    c.if-tasks_sound.ensures
 
-pub returns-else-tasks-sound : goal.returns-else-tasks-sound
-returns-else-tasks-sound c =
-    c.if-tasks-sound.false
-    ∙ whole_tasks c.args.tasks.now c.args.sections.now c.if-is-empty.ensures c.if-tasks-gt-MOST-TASKS.false c.if-sections-gt-MOST-SECTIONS.false
-    c.if-tasks-sound.ensures
+pub returns-else-tasks_sound : goal.returns-else-tasks_sound
+returns-else-tasks_sound c =
+    c.if-tasks_sound.false
+    ∙ whole_tasks c.args.tasks.now c.args.sections.now c.if-is_empty.ensures c.if-tasks-gt-MOST_TASKS.false c.if-sections-gt-MOST_SECTIONS.false
+    c.if-tasks_sound.ensures

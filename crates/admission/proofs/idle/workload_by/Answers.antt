@@ -6,26 +6,26 @@ use Rattle.admission.specs.Demand.{workload}
 use Rattle.admission.proofs.Several.{no_task_lem, workload_more, workload_le}
 use Rattle.admission.proofs.idle.workload_by.Goals as goal
 
-pub task-workload-sum-requires : goal.task-workload-sum-requires
-task-workload-sum-requires c = record {
+pub task_workload-sum-requires : goal.task_workload-sum-requires
+task_workload-sum-requires c = record {
   timed = All-get_or Timed c.args.tasks.now c.loop-task.task-index no_task_lem c.loop-task-test.true c.requires.timed;
   near = c.requires.near;
 }
 
-pub overflow-add-sum : goal.overflow-add-sum
-overflow-add-sum c =
+pub overflow_add-sum : goal.overflow_add-sum
+overflow_add-sum c =
     omega (
       arith,
       c.loop-task.invariant,
       workload_more c.args.tasks.now c.loop-task.task-index c.args.t c.loop-task-test.true,
-      c.task-workload-sum.ensures,
+      c.task_workload-sum.ensures,
       workload_le c.args.tasks.now c.args.t c.requires.near c.requires.timed,
       c.requires.few,
     )
 
 pub loop-task-preserved : goal.loop-task-preserved
 loop-task-preserved c =
-    omega (arith, c.loop-task.invariant, workload_more c.args.tasks.now c.loop-task.task-index c.args.t c.loop-task-test.true, c.task-workload-sum.ensures)
+    omega (arith, c.loop-task.invariant, workload_more c.args.tasks.now c.loop-task.task-index c.args.t c.loop-task-test.true, c.task_workload-sum.ensures)
 
 pub returns : goal.returns
 returns c = omega (arith, c.loop-task.invariant, at_drop_all (λ l. workload l c.args.t) c.args.tasks.now c.loop-task.task-index c.loop-task-test.false)

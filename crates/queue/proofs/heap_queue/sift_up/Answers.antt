@@ -10,12 +10,12 @@ loop-i-preserved g c =
     let s = c.loop-i.entries in
     let n = c.args.start + 1 in
     let i = c.loop-i.i in
-    let p = c.parent-of-parent.result in
+    let p = c.parent_of-parent.result in
     let x = c.index-entries-i.result in
     let y = c.index-entries-parent.result in
-    let less : b x y ≡ true = sym c.if-not-is-before.ensures in (
+    let less : b x y ≡ true = sym c.if-not-is_before.ensures in (
       omega arith,
-      step_above b o s n i p x y (omega arith) (omega arith) c.index-entries-i.is c.index-entries-parent.is c.parent-of-parent.ensures less (omega arith) c.loop-i.invariant.1 c.loop-i.invariant.2,
-      step_across b o s n i p x y (omega arith) (omega arith) c.index-entries-i.is c.index-entries-parent.is c.parent-of-parent.ensures less (omega arith) c.loop-i.invariant.1 c.loop-i.invariant.2,
+      step_above b o s n i p x y (omega arith) (omega arith) c.index-entries-i.is c.index-entries-parent.is c.parent_of-parent.ensures less (omega arith) c.loop-i.invariant.1 c.loop-i.invariant.2,
+      step_across b o s n i p x y (omega arith) (omega arith) c.index-entries-i.is c.index-entries-parent.is c.parent_of-parent.ensures less (omega arith) c.loop-i.invariant.1 c.loop-i.invariant.2,
       sorted_swapped b o s n i p x y (omega arith) (omega arith) (omega arith) (λ e. omega arith) c.index-entries-i.is c.index-entries-parent.is ∙ c.loop-i.invariant.3,
     )

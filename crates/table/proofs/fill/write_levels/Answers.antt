@@ -20,7 +20,7 @@ loop-i-preserved c =
     let xs = c.args.sections.now in
     let i = c.loop-i.i in
     mapped_more f xs c.loop-i.sections i _ (omega arith) c.loop-i.invariant _
-    (ap (with_level (get_or c.loop-i.sections i (record { task = 0; around = None; small = 0; capital = 0; length = 0; level = None }))) c.section-level-level.ensures ∙ ap f (mapped_here f xs c.loop-i.sections i _ (omega arith) c.loop-i.invariant))
+    (ap (with_level (get_or c.loop-i.sections i (record { task = 0; around = None; small = 0; capital = 0; length = 0; level = None }))) c.section_level-level.ensures ∙ ap f (mapped_here f xs c.loop-i.sections i _ (omega arith) c.loop-i.invariant))
 
 pub returns : goal.returns
 returns c =

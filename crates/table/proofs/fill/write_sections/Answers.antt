@@ -22,13 +22,13 @@ loop-item-preserved-in-Open c =
     let same = said.same ∙ i.0 in
     let more = opens_open is is' c.in-Open.n e c.loop-item.number in
     let room : c.loop-item.number < length c.loop-item.sections = omega (arith, ap opens e, c.loop-item.auto.sections, c.requires.room, i.2) in
-    let letters = c.letters-at-letters.ensures ∙ ap (λ p. letters_from 0 0 (items_from p c.args.line.now)) c.place.ensures ∙ ap (λ l. letters_from 0 0 (items_from after.place l)) (sym same) in (
+    let letters = c.letters_at-letters.ensures ∙ ap (λ p. letters_from 0 0 (items_from p c.args.line.now)) c.place.ensures ∙ ap (λ l. letters_from 0 0 (items_from after.place l)) (sym same) in (
       same,
       shallow_open is is' c.in-Open.n e c.loop-item.around.depth _ c.push.ensures.depth i.1,
       omega (arith, i.2),
       wrote_open is is' c.in-Open.n e c.args.task c.args.first c.args.sections.now _ c.loop-item.sections c.loop-item.number
-          (inner c.loop-item.around.values c.loop-item.around.depth) _ c.section-of.result room c.push.ensures.after
-          (c.section-of.ensures ∙ ap (λ x. section_of c.args.task x c.letters-at-letters.result c.ticks.result) c.innermost.ensures
+          (inner c.loop-item.around.values c.loop-item.around.depth) _ c.section_of.result room c.push.ensures.after
+          (c.section_of.ensures ∙ ap (λ x. section_of c.args.task x c.letters_at-letters.result c.ticks.result) c.innermost.ensures
           ∙ ap (λ x. section_of c.args.task (top (inner c.loop-item.around.values c.loop-item.around.depth)) x c.ticks.result) letters
           ∙ ap (λ x. section_of c.args.task (top (inner c.loop-item.around.values c.loop-item.around.depth)) (letters_from 0 0 is') x) c.ticks.ensures)
           i.3,
@@ -37,4 +37,4 @@ loop-item-preserved-in-Open c =
 pub returns : goal.returns
 returns c =
     finished c.args.sections.now c.args.first _ c.loop-item.sections c.loop-item.number _
-    (ap (sections_in c.args.task c.loop-item.number (inner c.loop-item.around.values c.loop-item.around.depth)) c.in-default.ensures.next) c.loop-item.invariant.3
+    (ap (sections_in c.args.task c.loop-item.number (inner c.loop-item.around.values c.loop-item.around.depth)) c.in_default.ensures.next) c.loop-item.invariant.3

@@ -3,19 +3,19 @@ use Rattle.std.proofs.lemmas.List.{drop_all}
 use Rattle.table.specs.Level.{lesser, letter_level}
 use Rattle.table.proofs.Least.{letter_look, letter_pass, lesser_none}
 use Rattle.table.proofs.levels.letter_level.Goals as goal
-use Rattle.table.proofs.levels.letter_level.Goals.{then-names-it, else-names-it}
+use Rattle.table.proofs.levels.letter_level.Goals.{then-names_it, else-names_it}
 
 pub loop-section-preserved : goal.loop-section-preserved
 loop-section-preserved c =
     let rest = letter_level c.args.tasks.now (drop (c.loop-section.section-index + 1) c.args.sections.now) c.args.resource in
-    elim c.if-names-it.branch [
-      | then-names-it w ↦
-          ap (λ x. lesser x rest) (w.level-is ∙ w.lesser-of-level.ensures ∙ ap (lesser c.loop-section.level) w.deadline-of.ensures)
-          ∙ letter_look c.args.tasks.now c.args.sections.now c.loop-section.section-index c.args.resource _ _ c.loop-section-test.true (sym w.if-names-it.ensures)
+    elim c.if-names_it.branch [
+      | then-names_it w ↦
+          ap (λ x. lesser x rest) (w.level-is ∙ w.lesser_of-level.ensures ∙ ap (lesser c.loop-section.level) w.deadline_of.ensures)
+          ∙ letter_look c.args.tasks.now c.args.sections.now c.loop-section.section-index c.args.resource _ _ c.loop-section-test.true (sym w.if-names_it.ensures)
           ∙ c.loop-section.invariant
-      | else-names-it w ↦
+      | else-names_it w ↦
           ap (λ x. lesser x rest) w.level-is
-          ∙ letter_pass c.args.tasks.now c.args.sections.now c.loop-section.section-index c.args.resource _ _ c.loop-section-test.true (sym w.if-names-it.ensures)
+          ∙ letter_pass c.args.tasks.now c.args.sections.now c.loop-section.section-index c.args.resource _ _ c.loop-section-test.true (sym w.if-names_it.ensures)
           ∙ c.loop-section.invariant
     ]
 

@@ -8,7 +8,7 @@ pub loop-resource-preserved : goal.loop-resource-preserved
 loop-resource-preserved c = (
   length-set c.loop-resource.levels c.loop-resource.resource _ ∙ c.loop-resource.invariant.0,
   front_more (letter_level c.args.tasks.now c.args.sections.now) c.loop-resource.levels c.loop-resource.resource _
-      (omega (arith, c.loop-resource.invariant.0)) c.letter-level.ensures c.loop-resource.invariant.1,
+      (omega (arith, c.loop-resource.invariant.0)) c.letter_level.ensures c.loop-resource.invariant.1,
 )
 
 pub returns : goal.returns

@@ -3,19 +3,19 @@ use Rattle.std.proofs.lemmas.List.{drop_all}
 use Rattle.table.specs.Level.{lesser, least_level}
 use Rattle.table.proofs.Least.{least_look, least_pass, lesser_none}
 use Rattle.table.proofs.levels.section_level.Goals as goal
-use Rattle.table.proofs.levels.section_level.Goals.{then-names-it, else-names-it}
+use Rattle.table.proofs.levels.section_level.Goals.{then-names_it, else-names_it}
 
 pub loop-resource-preserved : goal.loop-resource-preserved
 loop-resource-preserved c =
     let rest = least_level (drop (c.loop-resource.resource + 1) c.args.levels.now) (c.loop-resource.resource + 1) c.args.section.now in
-    elim c.if-names-it.branch [
-      | then-names-it w ↦
-          ap (λ x. lesser x rest) (w.least-is ∙ w.lesser-of-least.ensures)
-          ∙ least_look c.args.levels.now c.args.section.now c.loop-resource.resource _ (omega arith) (sym w.if-names-it.ensures)
+    elim c.if-names_it.branch [
+      | then-names_it w ↦
+          ap (λ x. lesser x rest) (w.least-is ∙ w.lesser_of-least.ensures)
+          ∙ least_look c.args.levels.now c.args.section.now c.loop-resource.resource _ (omega arith) (sym w.if-names_it.ensures)
           ∙ c.loop-resource.invariant
-      | else-names-it w ↦
+      | else-names_it w ↦
           ap (λ x. lesser x rest) w.least-is
-          ∙ least_pass c.args.levels.now c.args.section.now c.loop-resource.resource _ (omega arith) (sym w.if-names-it.ensures)
+          ∙ least_pass c.args.levels.now c.args.section.now c.loop-resource.resource _ (omega arith) (sym w.if-names_it.ensures)
           ∙ c.loop-resource.invariant
     ]
 

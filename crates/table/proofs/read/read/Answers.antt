@@ -10,12 +10,12 @@ returns c =
     let text = c.args.text.now in
     let t = length c.args.tasks.now in
     let s = length c.args.sections.now in
-    let is = c.read-checked.ensures.value in
+    let is = c.read_checked.ensures.value in
     record {
       value = is;
-      tasks = c.read-checked.ensures.tasks;
-      sections = c.read-checked.ensures.sections;
+      tasks = c.read_checked.ensures.tasks;
+      sections = c.read_checked.ensures.sections;
       meaning = subst (Meaning text (room_for t s)) (sym is) (meaning text t s);
       exactly = subst (Exactly text (room_for t s)) (sym is) (exactly text t s);
-      bound = judged_within text t s c.read-checked.result is;
+      bound = judged_within text t s c.read_checked.result is;
     }

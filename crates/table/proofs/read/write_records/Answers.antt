@@ -6,22 +6,22 @@ use Rattle.table.specs.Lines.{lines_of}
 use Rattle.table.proofs.Counted.{counted, written_front, front_is, with_levels}
 use Rattle.table.proofs.read.write_records.Goals as goal
 
-pub slice-bounds-letter-levels-end : goal.slice-bounds-letter-levels-end
-slice-bounds-letter-levels-end c =
+pub slice_bounds-letter_levels-end : goal.slice_bounds-letter_levels-end
+slice_bounds-letter_levels-end c =
     let p = counted (room_for (length c.args.tasks.now) (length c.args.sections.now)) nothing_read c.args.counts 0 (lines_of c.args.text.now) c.requires in
-    let few : c.args.counts.tasks ≤ length c.write-lines.new.tasks = omega (arith, p.tasks_within, c.write-lines.auto.tasks) in
+    let few : c.args.counts.tasks ≤ length c.write_lines.new.tasks = omega (arith, p.tasks_within, c.write_lines.auto.tasks) in
     search rules
 
-pub slice-bounds-letter-levels-end-2 : goal.slice-bounds-letter-levels-end-2
-slice-bounds-letter-levels-end-2 c =
+pub slice_bounds-letter_levels-end-2 : goal.slice_bounds-letter_levels-end-2
+slice_bounds-letter_levels-end-2 c =
     let p = counted (room_for (length c.args.tasks.now) (length c.args.sections.now)) nothing_read c.args.counts 0 (lines_of c.args.text.now) c.requires in
-    let few : c.args.counts.sections ≤ length c.write-lines.new.sections = omega (arith, p.sections_within, c.write-lines.auto.sections) in
+    let few : c.args.counts.sections ≤ length c.write_lines.new.sections = omega (arith, p.sections_within, c.write_lines.auto.sections) in
     search rules
 
-pub write-levels-requires : goal.write-levels-requires
-write-levels-requires c =
+pub write_levels-requires : goal.write_levels-requires
+write_levels-requires c =
     let p = counted (room_for (length c.args.tasks.now) (length c.args.sections.now)) nothing_read c.args.counts 0 (lines_of c.args.text.now) c.requires in
-    omega (arith, p.sections_within, c.write-lines.auto.sections)
+    omega (arith, p.sections_within, c.write_lines.auto.sections)
 
 pub returns : goal.returns
 returns c =
@@ -33,16 +33,16 @@ returns c =
     let each : m ≡ length (bare_sections text) = omega (arith, p.sections) in
     let whole : k - 0 ≡ k = omega arith in
     let part : m - 0 ≡ m = omega arith in
-    let tasks = c.write-lines.ensures.tasks ∙ written_front (text_tasks text) c.args.tasks.now in
-    let sections = c.write-lines.ensures.sections ∙ written_front (bare_sections text) c.args.sections.now in
-    let levels : c.letter-levels-levels.result ≡ letter_levels (text_tasks text) (bare_sections text) =
-    c.letter-levels-levels.ensures
-    ∙ ap (λ n. letter_levels (take n c.write-lines.new.tasks) (take (m - 0) c.write-lines.new.sections)) whole
-    ∙ ap (λ l. letter_levels l (take (m - 0) c.write-lines.new.sections)) (front_is k (text_tasks text) c.args.tasks.now _ tasks all)
-    ∙ ap (λ n. letter_levels (text_tasks text) (take n c.write-lines.new.sections)) part
+    let tasks = c.write_lines.ensures.tasks ∙ written_front (text_tasks text) c.args.tasks.now in
+    let sections = c.write_lines.ensures.sections ∙ written_front (bare_sections text) c.args.sections.now in
+    let levels : c.letter_levels-levels.result ≡ letter_levels (text_tasks text) (bare_sections text) =
+    c.letter_levels-levels.ensures
+    ∙ ap (λ n. letter_levels (take n c.write_lines.new.tasks) (take (m - 0) c.write_lines.new.sections)) whole
+    ∙ ap (λ l. letter_levels l (take (m - 0) c.write_lines.new.sections)) (front_is k (text_tasks text) c.args.tasks.now _ tasks all)
+    ∙ ap (λ n. letter_levels (text_tasks text) (take n c.write_lines.new.sections)) part
     ∙ ap (letter_levels (text_tasks text)) (front_is m (bare_sections text) c.args.sections.now _ sections each) in
     record {
       tasks = tasks;
       sections = with_levels m (letter_levels (text_tasks text) (bare_sections text)) (bare_sections text) c.args.sections.now _ _ sections each
-          (c.write-levels.ensures ∙ ap (λ l. map (leveled l) (take m c.write-lines.new.sections) ++ drop m c.write-lines.new.sections) levels);
+          (c.write_levels.ensures ∙ ap (λ l. map (leveled l) (take m c.write_lines.new.sections) ++ drop m c.write_lines.new.sections) levels);
     }

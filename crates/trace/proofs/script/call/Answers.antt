@@ -3,17 +3,17 @@ use Rattle.trace.specs.Line.{Says}
 use Rattle.trace.proofs.Words.{no_advance, no_enter, no_leave}
 use Rattle.trace.proofs.script.call.Goals as goal
 
-pub returns-in-err-number : goal.returns-in-err-number
-returns-in-err-number c =
+pub returns-in_err-number : goal.returns-in_err-number
+returns-in_err-number c =
     let text = c.args.text.now in
-    subst (Says text) (sym c.from-residual.ensures) (no_advance text c.in-Some.word.now (search rules) c.in-err-number.ensures)
+    subst (Says text) (sym c.from_residual.ensures) (no_advance text c.in-Some.word.now (search rules) c.in_err-number.ensures)
 
-pub returns-in-err-number-2 : goal.returns-in-err-number-2
-returns-in-err-number-2 c =
+pub returns-in_err-number-2 : goal.returns-in_err-number-2
+returns-in_err-number-2 c =
     let text = c.args.text.now in
-    subst (Says text) (sym c.from-residual-in-err-number-2.ensures) (no_enter text c.in-Some-strip-prefix.word.now (search rules) c.in-err-number-2.ensures)
+    subst (Says text) (sym c.from_residual-in_err-number-2.ensures) (no_enter text c.in-Some-strip_prefix.word.now (search rules) c.in_err-number-2.ensures)
 
-pub returns-in-err-ticket : goal.returns-in-err-ticket
-returns-in-err-ticket c =
+pub returns-in_err-ticket : goal.returns-in_err-ticket
+returns-in_err-ticket c =
     let text = c.args.text.now in
-    subst (Says text) (sym c.from-residual-in-err-ticket.ensures) (no_leave text c.in-ok-words.words.now (search rules) c.in-err-ticket.ensures)
+    subst (Says text) (sym c.from_residual-in_err-ticket.ensures) (no_leave text c.in_ok-words.words.now (search rules) c.in_err-ticket.ensures)

@@ -8,5 +8,5 @@ use Rattle.trace.proofs.script.number.Goals as goal
 pub returns : goal.returns
 returns c =
     let word = c.args.word.now in
-    let plain = not_from_Decides c.starts-with.result (starts_char 43 word c.starts-with.result c.starts-with.ensures.cases (omega arith) (omega arith)) c.if-starts-with.false in
+    let plain = not_from_Decides c.starts_with.result (starts_char 43 word c.starts_with.result c.starts_with.ensures.cases (omega arith) (omega arith)) c.if-starts_with.false in
     subst (Counts 64 word) (sym c.ok.ensures.value) (counted 64 word c.parse.result c.parse.ensures.value.0 plain)

@@ -9,13 +9,13 @@ bounds-self-depth c =
     free c.args.owner c.args.cost c.args.self.now.places c.in-Some.depth c.args.section.now
     c.args.self.now.tall c.in-Some.ensures.within (sym c.if-not-admits.ensures)
 
-pub invariant-of-self-2 : goal.invariant-of-self-2
-invariant-of-self-2 c =
+pub invariant_of-self-2 : goal.invariant_of-self-2
+invariant_of-self-2 c =
     let room =
     free c.args.owner c.args.cost c.args.self.now.places c.in-Some.depth c.args.section.now
     c.args.self.now.tall c.in-Some.ensures.within (sym c.if-not-admits.ensures) in
     let within : c.in-Some.depth + 1 ≤ 8 = omega arith in
-    (length-set c.args.self.now.places c.in-Some.depth _ ∙ c.args.self.now.tall, (within, tt))
+    record { tall = length-set c.args.self.now.places c.in-Some.depth _ ∙ c.args.self.now.tall; within = within }
 
 pub returns : goal.returns
 returns c =

@@ -10,15 +10,15 @@ use Rattle.queue.proofs.heap_queue.HeapQueueQueue.insert.Goals as goal
 pub bounds-self-len : goal.bounds-self-len
 bounds-self-len g c =
     let q = c.args.self.now in
-    let fit = fit_after g.E.QueueEntry.order (heap_room q) c.args.e q.entries.now q.len (omega arith) (sym c.refusal.ensures ∙ c.in-default.is) in
+    let fit = fit_after g.E.QueueEntry.order (heap_room q) c.args.e q.entries.now q.len (omega arith) (sym c.refusal.ensures ∙ c.in_default.is) in
     omega arith
 
-pub sift-up-requires : goal.sift-up-requires
-sift-up-requires g c =
+pub sift_up-requires : goal.sift_up-requires
+sift_up-requires g c =
     let o = g.E.QueueEntry.order in
     let q = c.args.self.now in
     let s = q.entries.now in
-    let fit = fit_after o (heap_room q) c.args.e s q.len (omega arith) (sym c.refusal.ensures ∙ c.in-default.is) in
+    let fit = fit_after o (heap_room q) c.args.e s q.len (omega arith) (sym c.refusal.ensures ∙ c.in_default.is) in
     record {
       within = simp length-set (omega arith);
       shape = heap_above o.before g.met.E.QueueEntry.total s q.len c.args.e c.requires.1;
@@ -33,16 +33,16 @@ returns g c =
     let raw = take len s in
     let xs = sorted o.before raw in
     let room = min (length s) limit in
-    let last = c.sift-up.new.entries in
-    let none : refusal_of o room e xs ≡ None = sym c.refusal.ensures ∙ c.in-default.is in
-    let same : min (length last) limit ≡ room = ap (λ n. min n limit) (c.sift-up.auto.entries ∙ length-set s len e) in
+    let last = c.sift_up.new.entries in
+    let none : refusal_of o room e xs ≡ None = sym c.refusal.ensures ∙ c.in_default.is in
+    let same : min (length last) limit ≡ room = ap (λ n. min n limit) (c.sift_up.auto.entries ∙ length-set s len e) in
     let fit = fit_after o room e s len (omega arith) none in
     let new : sorted o.before (take (len + 1) last) ≡ insert_sorted o.before e xs =
-    c.sift-up.ensures.same ∙ heap_insert o.before g.met.E.QueueEntry.total s len e (omega arith) in
+    c.sift_up.ensures.same ∙ heap_insert o.before g.met.E.QueueEntry.total s len e (omega arith) in
     record {
       ordered = (
         omega arith,
-        c.sift-up.ensures.shape,
+        c.sift_up.ensures.shape,
         subst (λ (n : ℕ). Sound o n (sorted o.before (take (len + 1) last))) (sym same)
             (subst (Sound o room) (sym new) (sound_insert o room e xs g.met.E.QueueEntry.total c.requires.2 none)),
       );

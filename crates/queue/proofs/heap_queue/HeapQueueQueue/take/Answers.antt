@@ -13,15 +13,15 @@ returns g c =
     let s = c.args.self.now.entries.now in
     let len = c.args.self.now.len in
     let room = min (length s) limit in
-    let last = c.sift-down.new.entries in
+    let last = c.sift_down.new.entries in
     let same : min (length last) limit ≡ room =
-    ap (λ n. min n limit) (c.sift-down.auto.entries ∙ length-set s 0 (get_or s (len - 1) c.index-self-last.result)) in
+    ap (λ n. min n limit) (c.sift_down.auto.entries ∙ length-set s 0 (get_or s (len - 1) c.index-self-last.result)) in
     let rest : sorted b (take (len - 1) last) ≡ rest_of (sorted b (take len s)) =
-    c.sift-down.ensures.same ∙ heap_rest b t s len c.index-self-last.result (omega arith) (omega arith) c.requires.1 in
+    c.sift_down.ensures.same ∙ heap_rest b t s len c.index-self-last.result (omega arith) (omega arith) c.requires.1 in
     record {
       ordered = (
         omega arith,
-        c.sift-down.ensures.shape,
+        c.sift_down.ensures.shape,
         subst (λ (n : ℕ). Sound o n (sorted b (take (len - 1) last))) (sym same)
             (subst (Sound o room) (sym rest) (sound_rest o room (sorted b (take len s)) c.requires.2)),
       );

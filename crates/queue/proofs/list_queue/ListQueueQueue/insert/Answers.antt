@@ -13,7 +13,7 @@ returns g c =
     let len = c.args.self.now.len in
     let xs = take len s in
     let room = min (length s) limit in
-    let none : refusal_of o room e xs ≡ None = sym c.refusal.ensures ∙ c.in-default.is in
+    let none : refusal_of o room e xs ≡ None = sym c.refusal.ensures ∙ c.in_default.is in
     let same : min (length c.put.new.entries) limit ≡ room = ap (λ n. min n limit) c.put.auto.entries in
     let fit : len < room = omega (arith, (fit_from o room e xs none).1, length-take len s) in
     record {

@@ -13,5 +13,5 @@ returns c =
     let near = (timed_at k c.requires.copied c.args.task c.requires.known.0).near in
     let d = ap (λ (t : TaskRecord). t.deadline) at in
     let p = ap (λ (t : TaskRecord). t.period) at in
-    let e : c.saturating-sub-released.result + (get_or k.tasks c.args.task no_task).period ≡ next_of (table_of k) c.args.task c.args.deadline = omega (arith, d, p, c.saturating-sub-released.ensures) in
-    record { value = ap (λ (n : ℕ). record { release = n; task = c.args.task }) e; near = omega (arith, p, near, c.saturating-sub-released.ensures) }
+    let e : c.saturating_sub-released.result + (get_or k.tasks c.args.task no_task).period ≡ next_of (table_of k) c.args.task c.args.deadline = omega (arith, d, p, c.saturating_sub-released.ensures) in
+    record { value = ap (λ (n : ℕ). record { release = n; task = c.args.task }) e; near = omega (arith, p, near, c.saturating_sub-released.ensures) }

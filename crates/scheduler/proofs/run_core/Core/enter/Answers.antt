@@ -37,15 +37,15 @@ returns-in-Some g c =
 pub enter-serial-requires : goal.enter-serial-requires
 enter-serial-requires g c =
     let self = c.args.self.now in
-    let open-to = enter_some self.records self.inner (ghosts_of self) c.args.section c.in-default.ensures in
+    let open-to = enter_some self.records self.inner (ghosts_of self) c.args.section c.in_default.ensures in
     record { top = (self.tall, open-to.some, open-to.room); counts = open-to.counted }
 
-pub invariant-of-self : goal.invariant-of-self
-invariant-of-self g c =
+pub invariant_of-self : goal.invariant_of-self
+invariant_of-self g c =
     let self = c.args.self.now in
     let i = self.inner in
     let x = c.args.section in
-    let open-to = enter_some self.records i (ghosts_of self) x c.in-default.ensures in
+    let open-to = enter_some self.records i (ghosts_of self) x c.in_default.ensures in
     let wide = self.tall.3 (i.depth - 1) (omega (arith, self.tall.2, open-to.some)) in
     subst (Ghosts self.records) (sym c.enter-serial.ensures.after)
     (top_ghosts self.records i (ghosts_of self) (with_open x i.counts.entries (top_of i)) open-to.some (entered_by i x).counts refl refl (omega (arith, open-to.room))
@@ -63,8 +63,8 @@ returns g c =
     let rs = g.R.Queue.list self.released in
     let s = state_of i ws rs in
     let o = granted self.records i gh ws rs x in
-    let open-to = enter_some self.records i gh x c.in-default.ensures in
-    let is : step (table_of self.records) (Enter x) s ≡ o = enter_is self.records i gh ws rs x ∙ ap (λ (r : Option Refusal). by_refusal r s o) (sym c.in-default.ensures) in
+    let open-to = enter_some self.records i gh x c.in_default.ensures in
+    let is : step (table_of self.records) (Enter x) s ≡ o = enter_is self.records i gh ws rs x ∙ ap (λ (r : Option Refusal). by_refusal r s o) (sym c.in_default.ensures) in
     record {
       fitted = record {
         waiting = c.requires.waiting;

@@ -11,8 +11,8 @@ use Rattle.scheduler.proofs.Fits.{end_put, end_listed, listed_as}
 use Rattle.scheduler.proofs.Events.{due_some, expire_yes, expire_no, expiries_most}
 use Rattle.scheduler.proofs.run_core.Core.expire_running.Goals as goal
 
-pub returns-then-not-is-due : goal.returns-then-not-is-due
-returns-then-not-is-due g c =
+pub returns-then-not-is_due : goal.returns-then-not-is_due
+returns-then-not-is_due g c =
     let self = c.args.self.now in
     record {
       live = c.requires.live;
@@ -20,7 +20,7 @@ returns-then-not-is-due g c =
       records = refl;
       few = omega arith;
       counts = (omega arith, refl);
-      after = expire_no self.records self.inner (ghosts_of self) c.args.t (g.W.Queue.list self.waiting) (g.R.Queue.list self.released) (sym c.if-not-is-due.ensures);
+      after = expire_no self.records self.inner (ghosts_of self) c.args.t (g.W.Queue.list self.waiting) (g.R.Queue.list self.released) (sym c.if-not-is_due.ensures);
     }
 
 pub expire-requires : goal.expire-requires
@@ -29,7 +29,7 @@ expire-requires g c =
     let gh = ghosts_of self in
     let ws = g.W.Queue.list self.waiting in
     let rs = g.R.Queue.list self.released in
-    let some = due_some self.records self.inner gh c.args.t ws rs (sym c.if-not-is-due.ensures) in
+    let some = due_some self.records self.inner gh c.args.t ws rs (sym c.if-not-is_due.ensures) in
     let top = self.known (self.inner.depth - 1) (omega arith) in
     record {
       top = (self.tall, some, omega (arith, top.0, self.copied.2), top.2);
@@ -39,11 +39,11 @@ expire-requires g c =
       );
     }
 
-pub invariant-of-self : goal.invariant-of-self
-invariant-of-self g c =
+pub invariant_of-self : goal.invariant_of-self
+invariant_of-self g c =
     let self = c.args.self.now in
     let gh = ghosts_of self in
-    let some = due_some self.records self.inner gh c.args.t (g.W.Queue.list self.waiting) (g.R.Queue.list self.released) (sym c.if-not-is-due.ensures) in
+    let some = due_some self.records self.inner gh c.args.t (g.W.Queue.list self.waiting) (g.R.Queue.list self.released) (sym c.if-not-is_due.ensures) in
     subst (Ghosts self.records) (sym c.expire.ensures) (pop_ghosts self.records self.inner gh (expired_by self.inner).counts some refl refl refl)
 
 pub returns : goal.returns
@@ -54,7 +54,7 @@ returns g c =
     let rs = g.R.Queue.list self.released in
     let wc = g.W.Queue.capacity self.waiting in
     let rc = g.R.Queue.capacity self.released in
-    let due = sym c.if-not-is-due.ensures in
+    let due = sym c.if-not-is_due.ensures in
     let some = due_some self.records self.inner gh c.args.t ws rs due in
     let li = c.requires.fitted.lists c.requires.live in
     let put : g.W.Queue.list c.insert.new.self ≡ insert_sorted waiting_before (again_of (table_of self.records) self.inner) ws =

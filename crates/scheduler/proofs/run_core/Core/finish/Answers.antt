@@ -38,17 +38,17 @@ returns-in-Some g c =
 pub finish-requires : goal.finish-requires
 finish-requires g c =
     let self = c.args.self.now in
-    let some = finish_some self.inner c.in-default.ensures in
+    let some = finish_some self.inner c.in_default.ensures in
     let top = self.known (self.inner.depth - 1) (omega arith) in
     record {
       top = (self.tall, some.0, omega (arith, top.0, self.copied.2));
       counts = finishes_most self.records self.inner (ghosts_of self) _ _ _ _ (c.requires.lists c.if-not-self.false);
     }
 
-pub invariant-of-self : goal.invariant-of-self
-invariant-of-self g c =
+pub invariant_of-self : goal.invariant_of-self
+invariant_of-self g c =
     let self = c.args.self.now in
-    let some = finish_some self.inner c.in-default.ensures in
+    let some = finish_some self.inner c.in_default.ensures in
     subst (Ghosts self.records) (sym c.finish.ensures) (pop_ghosts self.records self.inner (ghosts_of self) (finished_by self.inner).counts some.0 refl refl (omega arith))
 
 pub select-requires : goal.select-requires
@@ -59,7 +59,7 @@ select-requires g c =
     let rs = g.R.Queue.list self.released in
     let wc = g.W.Queue.capacity self.waiting in
     let rc = g.R.Queue.capacity self.released in
-    let some = finish_some self.inner c.in-default.ensures in
+    let some = finish_some self.inner c.in_default.ensures in
     let li = c.requires.lists c.if-not-self.false in
     let put : g.W.Queue.list c.insert.new.self ≡ insert_sorted waiting_before (again_of (table_of self.records) self.inner) ws =
     c.insert.ensures.after ∙ ap (λ (w : Waiting). inserted waiting_order wc w ws) c.again-entry.ensures ∙ end_put self.records self.inner gh ws rs wc rc li some.0 in
@@ -81,13 +81,13 @@ returns g c =
     let rs = g.R.Queue.list self.released in
     let wc = g.W.Queue.capacity self.waiting in
     let rc = g.R.Queue.capacity self.released in
-    let some = finish_some self.inner c.in-default.ensures in
+    let some = finish_some self.inner c.in_default.ensures in
     let put : g.W.Queue.list c.insert.new.self ≡ insert_sorted waiting_before (again_of k self.inner) ws =
     c.insert.ensures.after ∙ ap (λ (w : Waiting). inserted waiting_order wc w ws) c.again-entry.ensures
     ∙ end_put self.records self.inner gh ws rs wc rc (c.requires.lists c.if-not-self.false) some.0 in
     let s = state_of self.inner ws rs in
     let o = done self.records self.inner gh ws rs in
-    let is : step k Finish s ≡ o = finish_is self.records self.inner gh ws rs ∙ ap (λ (x : Option Refusal). by_refusal x s o) (sym c.in-default.ensures) in
+    let is : step k Finish s ≡ o = finish_is self.records self.inner gh ws rs ∙ ap (λ (x : Option Refusal). by_refusal x s o) (sym c.in_default.ensures) in
     let end = c.select.new.self in
     let reached : state_of end.inner (g.W.Queue.list end.waiting) (g.R.Queue.list end.released) ≡ o.state =
     c.select.ensures.after ∙ ap (selected k) (ap (λ (i : Inner). state_of i (g.W.Queue.list c.insert.new.self) rs) c.finish.ensures ∙ ap (λ (l : List Waiting). state_of (finished_by self.inner) l rs) put) in

@@ -26,8 +26,8 @@ lapse-requires g c =
     let first = listed_as refl refl (sym (first_is rs c.in-Some.e c.in-Some.ensures)) refl refl li in
     (self.tall, omega (arith, first.released.0.0, self.copied.2), expiries_most self.records self.inner (ghosts_of self) _ rs _ _ li)
 
-pub returns-then-is-now : goal.returns-then-is-now
-returns-then-is-now g c =
+pub returns-then-is_now : goal.returns-then-is_now
+returns-then-is_now g c =
     let self = c.args.self.now in
     let gh = ghosts_of self in
     let k = table_of self.records in
@@ -40,8 +40,8 @@ returns-then-is-now g c =
     let li = listed_as refl refl (sym is) refl refl (c.requires.fitted.lists c.requires.live) in
     let single = first_single released_order rc rs e c.in-Some.ensures (g.R.Queue.sound released_order self.released c.requires.fitted.released) in
     let put : g.W.Queue.list c.insert.new.self ≡ insert_sorted waiting_before (record { release = next_of k e.task e.deadline; task = e.task }) ws =
-    c.insert.ensures.after ∙ ap (λ (w : Waiting). inserted waiting_order wc w ws) c.next-release-entry.ensures.value ∙ lapse_put self.records self.inner gh ws e (rest_of rs) wc rc li single in
-    let now = sym c.is-now.ensures ∙ c.if-is-now.true in
+    c.insert.ensures.after ∙ ap (λ (w : Waiting). inserted waiting_order wc w ws) c.next_release-entry.ensures.value ∙ lapse_put self.records self.inner gh ws e (rest_of rs) wc rc li single in
+    let now = sym c.is_now.ensures ∙ c.if-is_now.true in
     let rest = c.take.ensures.after in
     record {
       live = c.requires.live;

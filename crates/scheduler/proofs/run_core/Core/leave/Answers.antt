@@ -19,8 +19,8 @@ use Rattle.scheduler.proofs.Calls.{live_answer, live_after}
 use Rattle.scheduler.proofs.Grants.{gone, leave_some, leave_is}
 use Rattle.scheduler.proofs.run_core.Core.leave.Goals as goal
 
-pub returns-then-is-open : goal.returns-then-is-open
-returns-then-is-open g c =
+pub returns-then-is_open : goal.returns-then-is_open
+returns-then-is_open g c =
     let self = c.args.self.now in
     let ticket = c.args.grant.ticket in
     let ws = g.W.Queue.list self.waiting in
@@ -28,8 +28,8 @@ returns-then-is-open g c =
     let s = state_of self.inner ws rs in
     let is : step (table_of self.records) (Leave ticket) s ≡ refused s (NotInnermost ticket) =
     leave_is self.records self.inner (ghosts_of self) ticket ws rs
-    ∙ cond-false (innermost_for ticket self.inner) _ _ (sym c.if-not-is-innermost.ensures)
-    ∙ cond-true (opened_for ticket self.inner) _ _ (sym c.if-is-open.ensures) in
+    ∙ cond-false (innermost_for ticket self.inner) _ _ (sym c.if-not-is_innermost.ensures)
+    ∙ cond-true (opened_for ticket self.inner) _ _ (sym c.if-is_open.ensures) in
     record {
       fitted = c.requires;
       live = refl;
@@ -39,8 +39,8 @@ returns-then-is-open g c =
       after = sym (live_after self.live (table_of self.records) (Leave ticket) s c.if-not-self.false (refused s (NotInnermost ticket)) is);
     }
 
-pub returns-then-not-is-innermost : goal.returns-then-not-is-innermost
-returns-then-not-is-innermost g c =
+pub returns-then-not-is_innermost : goal.returns-then-not-is_innermost
+returns-then-not-is_innermost g c =
     let self = c.args.self.now in
     let ticket = c.args.grant.ticket in
     let ws = g.W.Queue.list self.waiting in
@@ -48,8 +48,8 @@ returns-then-not-is-innermost g c =
     let s = state_of self.inner ws rs in
     let is : step (table_of self.records) (Leave ticket) s ≡ refused s NotOpen =
     leave_is self.records self.inner (ghosts_of self) ticket ws rs
-    ∙ cond-false (innermost_for ticket self.inner) _ _ (sym c.if-not-is-innermost.ensures)
-    ∙ cond-false (opened_for ticket self.inner) _ _ (sym c.if-is-open.ensures) in
+    ∙ cond-false (innermost_for ticket self.inner) _ _ (sym c.if-not-is_innermost.ensures)
+    ∙ cond-false (opened_for ticket self.inner) _ _ (sym c.if-is_open.ensures) in
     record {
       fitted = c.requires;
       live = refl;
@@ -62,15 +62,15 @@ returns-then-not-is-innermost g c =
 pub leave-requires : goal.leave-requires
 leave-requires g c =
     let self = c.args.self.now in
-    let some = leave_some self.records self.inner (ghosts_of self) c.args.grant.ticket (sym c.if-not-is-innermost.ensures) in
+    let some = leave_some self.records self.inner (ghosts_of self) c.args.grant.ticket (sym c.if-not-is_innermost.ensures) in
     record { top = (self.tall, some.0, some.1); counts = omega (arith, self.balanced.0, self.balanced.1, top_open self.records self.inner (ghosts_of self) some.0, some.1) }
 
-pub invariant-of-self : goal.invariant-of-self
-invariant-of-self g c =
+pub invariant_of-self : goal.invariant_of-self
+invariant_of-self g c =
     let self = c.args.self.now in
     let i = self.inner in
     let gh = ghosts_of self in
-    let some = leave_some self.records i gh c.args.grant.ticket (sym c.if-not-is-innermost.ensures) in
+    let some = leave_some self.records i gh c.args.grant.ticket (sym c.if-not-is_innermost.ensures) in
     let last : i.depth - 1 < i.depth = omega (arith, some.0) in
     let wide = self.tall.3 (i.depth - 1) (omega (arith, self.tall.2, some.0)) in
     let few = (self.known (i.depth - 1) last).2 in
@@ -84,7 +84,7 @@ select-requires g c =
     let self = c.args.self.now in
     let i = self.inner in
     let gh = ghosts_of self in
-    let some = leave_some self.records i gh c.args.grant.ticket (sym c.if-not-is-innermost.ensures) in
+    let some = leave_some self.records i gh c.args.grant.ticket (sym c.if-not-is_innermost.ensures) in
     record {
       live = c.if-not-self.false;
       fitted = record {
@@ -105,7 +105,7 @@ returns g c =
     let s = state_of self.inner ws rs in
     let o = gone self.records self.inner (ghosts_of self) ticket ws rs in
     let is : step k (Leave ticket) s ≡ o =
-    leave_is self.records self.inner (ghosts_of self) ticket ws rs ∙ cond-true (innermost_for ticket self.inner) _ _ (sym c.if-not-is-innermost.ensures) in
+    leave_is self.records self.inner (ghosts_of self) ticket ws rs ∙ cond-true (innermost_for ticket self.inner) _ _ (sym c.if-not-is_innermost.ensures) in
     let end = c.select.new.self in
     let reached : state_of end.inner (g.W.Queue.list end.waiting) (g.R.Queue.list end.released) ≡ o.state =
     c.select.ensures.after ∙ ap (selected k) (ap (λ (i : Inner). state_of i ws rs) c.leave.ensures) in

@@ -40,7 +40,7 @@ module _ (k : Records) (tasks own-tasks : List TaskRecord) (sections own-section
 pub fill-requires : goal.fill-requires
 fill-requires g c =
     let k = c.copy-records.result in
-    let yes-served = served k.sizes.tasks c.count-held.result c.count-out.result c.capacity.result c.capacity-2.result (sym c.if-not-can-serve.ensures) in
+    let yes-served = served k.sizes.tasks c.count-held.result c.count-out.result c.capacity.result c.capacity-2.result (sym c.if-not-can_serve.ensures) in
     record {
       ordered = c.requires.ordered.0;
       empty = nil_from_length (g.W.Queue.list c.args.waiting) (omega (arith, c.count-held.ensures, yes-served.0));
@@ -50,15 +50,15 @@ fill-requires g c =
       );
     }
 
-pub invariant-of-result : goal.invariant-of-result
-invariant-of-result g c =
+pub invariant_of-result : goal.invariant_of-result
+invariant_of-result g c =
     let k = c.copy-records.result in
     let e = c.copy-records.ensures in
     let ok = copies_sound k c.args.pass.tasks.now c.tasks.result.now c.args.pass.sections.now c.sections.result.now c.requires.pass.rules e.table e.sizes e.len c.tasks.ensures c.sections.ensures in
     subst (Ghosts k) (sym c.new.ensures) (fresh_ghosts k ok)
 
-pub invariant-of-result-2 : goal.invariant-of-result-2
-invariant-of-result-2 g c =
+pub invariant_of-result-2 : goal.invariant_of-result-2
+invariant_of-result-2 g c =
     let k = c.copy-records.result in
     let e = c.copy-records.ensures in
     let ok = copies_sound k c.args.pass.tasks.now c.tasks.result.now c.args.pass.sections.now c.sections.result.now c.requires.pass.rules e.table e.sizes e.len c.tasks.ensures c.sections.ensures in
@@ -69,8 +69,8 @@ same_ready : (n n' a a' b b' wc wc' rc rc' : ℕ) → n ≡ n' → a ≡ a' → 
 same_ready n n' a a' b b' wc wc' rc rc' e f g h i =
     ap (λ x. serve x a b wc rc) e ∙ ap (λ x. serve n' x b wc rc) f ∙ ap (λ x. serve n' a' x wc rc) g ∙ ap (λ x. serve n' a' b' x rc) h ∙ ap (λ x. serve n' a' b' wc' x) i
 
-pub returns-then-not-can-serve : goal.returns-then-not-can-serve
-returns-then-not-can-serve g c =
+pub returns-then-not-can_serve : goal.returns-then-not-can_serve
+returns-then-not-can_serve g c =
     let k = c.copy-records.result in
     let e = c.copy-records.ensures in
     let pass = c.args.pass in
@@ -78,7 +78,7 @@ returns-then-not-can-serve g c =
       fitted = record { waiting = c.requires.ordered.0; released = c.requires.ordered.1; lists = λ z. absurd (false≢true z) };
       table = same_table k pass.tasks.now c.tasks.result.now pass.sections.now c.sections.result.now e.table.0 e.table.1 c.tasks.ensures c.sections.ensures;
       own = c.new.ensures;
-      live = c.if-not-can-serve.ensures
+      live = c.if-not-can_serve.ensures
           ∙ same_ready _ _ _ _ _ _ _ _ _ _ (e.sizes.0 ∙ ap length c.tasks.ensures) c.count-held.ensures c.count-out.ensures c.capacity.ensures c.capacity-2.ensures;
       started = λ z. absurd (false≢true z);
       same = λ _. (refl, refl);
@@ -92,7 +92,7 @@ returns g c =
     let rs = g.R.Queue.list c.args.released in
     let is = same_table k pass.tasks.now c.tasks.result.now pass.sections.now c.sections.result.now e.table.0 e.table.1 c.tasks.ensures c.sections.ensures in
     let ok = copies_sound k pass.tasks.now c.tasks.result.now pass.sections.now c.sections.result.now c.requires.pass.rules e.table e.sizes e.len c.tasks.ensures c.sections.ensures in
-    let can = served k.sizes.tasks c.count-held.result c.count-out.result c.capacity.result c.capacity-2.result (sym c.if-not-can-serve.ensures) in
+    let can = served k.sizes.tasks c.count-held.result c.count-out.result c.capacity.result c.capacity-2.result (sym c.if-not-can_serve.ensures) in
     let none : rs ≡ [] = nil_from_length rs (omega (arith, c.count-out.ensures, can.1)) in
     record {
       fitted = record {
@@ -103,7 +103,7 @@ returns g c =
       };
       table = is;
       own = c.new-2.ensures;
-      live = c.if-not-can-serve.ensures
+      live = c.if-not-can_serve.ensures
           ∙ same_ready _ _ _ _ _ _ _ _ _ _ (e.sizes.0 ∙ ap length c.tasks.ensures) c.count-held.ensures c.count-out.ensures c.capacity.ensures c.capacity-2.ensures;
       started = λ _.
           ap (λ (i : Inner). state_of i (g.W.Queue.list c.fill.new.waiting) rs) c.new-2.ensures

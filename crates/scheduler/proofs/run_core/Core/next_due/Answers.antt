@@ -10,5 +10,5 @@ returns g c =
     let top = top_deadline (jobs_of self.inner.stack self.inner.depth) in
     c.sooner-2.ensures
     ∙ ap (λ (d : Option ℕ). sooner d c.sooner.result) (c.deadline.ensures ∙ deadline_over self.inner (omega (arith, self.tall.0, self.tall.2)))
-    ∙ ap (sooner top) (c.sooner.ensures ∙ ap (λ (d : Option ℕ). sooner d c.first-release.result) c.first-deadline.ensures
-    ∙ ap (sooner (first_deadline (g.R.Queue.list self.released))) c.first-release.ensures)
+    ∙ ap (sooner top) (c.sooner.ensures ∙ ap (λ (d : Option ℕ). sooner d c.first_release.result) c.first_deadline.ensures
+    ∙ ap (sooner (first_deadline (g.R.Queue.list self.released))) c.first_release.ensures)

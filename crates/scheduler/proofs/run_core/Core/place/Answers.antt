@@ -15,5 +15,5 @@ returns g c =
     let ws = g.W.Queue.list self.waiting in
     let rs = g.R.Queue.list self.released in
     let wrap : Option Place → Result (Option Place) Refusal = λ o. Ok o in
-    ap wrap (c.noted-place.ensures ∙ place_over self.records self.inner (ghosts_of self) ws rs _ _ (c.requires.lists c.if-not-self.false) c.args.task)
+    ap wrap (c.noted_place.ensures ∙ place_over self.records self.inner (ghosts_of self) ws rs _ _ (c.requires.lists c.if-not-self.false) c.args.task)
     ∙ sym (cond-true self.live (wrap (place_of (state_of self.inner ws rs) c.args.task)) (Err Shut) c.if-not-self.false)

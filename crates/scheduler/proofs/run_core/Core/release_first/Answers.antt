@@ -25,8 +25,8 @@ release-requires g c =
     let first = listed_as refl (sym (first_is ws c.in-Some.w c.in-Some.ensures)) refl refl refl li in
     (self.tall, omega (arith, first.waiting.0.0, self.copied.2), releases_most self.records self.inner (ghosts_of self) ws _ _ _ li)
 
-pub returns-then-is-now : goal.returns-then-is-now
-returns-then-is-now g c =
+pub returns-then-is_now : goal.returns-then-is_now
+returns-then-is_now g c =
     let self = c.args.self.now in
     let gh = ghosts_of self in
     let k = table_of self.records in
@@ -38,7 +38,7 @@ returns-then-is-now g c =
     let is = first_is ws w c.in-Some.ensures in
     let li = listed_as refl (sym is) refl refl refl (c.requires.fitted.lists c.requires.live) in
     let single = first_single waiting_order wc ws w c.in-Some.ensures (g.W.Queue.sound waiting_order self.waiting c.requires.fitted.waiting) in
-    let now = sym c.is-now.ensures ∙ c.if-is-now.true in
+    let now = sym c.is_now.ensures ∙ c.if-is_now.true in
     let soon : w.release ≤ last_instant = omega (arith, eqb-true _ _ now, c.requires.soon) in
     let put : g.R.Queue.list c.insert.new.self ≡ insert_sorted released_before (release_of k w) rs =
     c.insert.ensures.after ∙ ap (λ (e : Released). inserted released_order rc e rs) c.released-entry.ensures.value ∙ release_put self.records self.inner gh w (rest_of ws) rs wc rc li single soon in

@@ -13,5 +13,5 @@ returns g c =
     let self = c.args.self.now in
     let job = running_job (table_of self.records) (jobs_of self.inner.stack self.inner.depth) in
     let wrap : Option Running → Result (Option Running) Refusal = λ o. Ok o in
-    ap wrap (c.top-job.ensures ∙ running_in_lem (table_of self.records) self.inner (omega (arith, self.tall.0, self.tall.2)))
+    ap wrap (c.top_job.ensures ∙ running_in_lem (table_of self.records) self.inner (omega (arith, self.tall.0, self.tall.2)))
     ∙ sym (cond-true self.live (wrap job) (Err Shut) c.if-not-self.false)

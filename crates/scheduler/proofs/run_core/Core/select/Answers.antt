@@ -13,8 +13,8 @@ use Rattle.scheduler.proofs.Fits.{push_room, push_listed}
 use Rattle.scheduler.proofs.Picks.{goes_over_lem, pick_yes, pick_no, pick_none}
 use Rattle.scheduler.proofs.run_core.Core.select.Goals as goal
 
-pub invariant-of-self : goal.invariant-of-self
-invariant-of-self g c =
+pub invariant_of-self : goal.invariant_of-self
+invariant_of-self g c =
     let self = c.args.self.now in
     let e = c.in-Some.e in
     let rs = g.R.Queue.list self.released in
@@ -75,8 +75,8 @@ returns-else-goes g c =
       after = pick_no (table_of self.records) self.inner ws rs e (rest_of rs) (first_is rs e c.in-Some.ensures) (sym over ∙ sym c.goes.ensures ∙ c.if-goes.false);
     }
 
-pub returns-in-default : goal.returns-in-default
-returns-in-default g c =
+pub returns-in_default : goal.returns-in_default
+returns-in_default g c =
     let self = c.args.self.now in
     let rs = g.R.Queue.list self.released in
     record {
@@ -84,5 +84,5 @@ returns-in-default g c =
       fitted = c.requires.fitted;
       records = refl;
       counts = refl;
-      after = pick_none (table_of self.records) self.inner (g.W.Queue.list self.waiting) rs (none_first rs c.in-default.ensures);
+      after = pick_none (table_of self.records) self.inner (g.W.Queue.list self.waiting) rs (none_first rs c.in_default.ensures);
     }

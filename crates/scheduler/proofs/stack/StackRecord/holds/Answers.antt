@@ -4,7 +4,7 @@ use Rattle.scheduler.specs.View.{opens_of}
 use Rattle.scheduler.specs.Moves.{no_open}
 use Rattle.scheduler.proofs.Jobs.{opens_none, opens_more}
 use Rattle.scheduler.proofs.stack.StackRecord.holds.Goals as goal
-use Rattle.scheduler.proofs.stack.StackRecord.holds.Goals.{then-is-for, else-is-for}
+use Rattle.scheduler.proofs.stack.StackRecord.holds.Goals.{then-is_for, else-is_for}
 
 pub loop-i-init : goal.loop-i-init
 loop-i-init c = ap (among_open c.args.ticket) (sym (opens_none c.args.self.now.opened))
@@ -15,7 +15,7 @@ loop-i-preserved c =
     let os = c.args.self.now.opened in
     let more = ap (among_open g) (sym (opens_more os c.loop-i.i no_open (omega arith))) in
     let rest = among_open g (opens_of os c.loop-i.i) in
-    elim c.if-is-for.branch [
-      | then-is-for w ↦ w.found-is ∙ ap (λ b. b || rest) w.if-is-for.ensures ∙ more
-      | else-is-for w ↦ w.found-is ∙ c.loop-i.invariant ∙ ap (λ b. b || rest) w.if-is-for.ensures ∙ more
+    elim c.if-is_for.branch [
+      | then-is_for w ↦ w.found-is ∙ ap (λ b. b || rest) w.if-is_for.ensures ∙ more
+      | else-is_for w ↦ w.found-is ∙ c.loop-i.invariant ∙ ap (λ b. b || rest) w.if-is_for.ensures ∙ more
     ]

@@ -18,7 +18,7 @@ loop-d-preserved c =
 
 pub returns : goal.returns
 returns c =
-    let n = run_none c.loop-d.self.line.now c.loop-d.self.place c.in-default.ensures in
+    let n = run_none c.loop-d.self.line.now c.loop-d.self.place c.in_default.ensures in
     let long = ap length n in
     let value = ap (λ l. min 1048577 (decimal_from c.loop-d.value l)) n in
     record { value = omega (arith, c.loop-d.invariant.3); after = omega arith; same = c.loop-d.invariant.0 }

@@ -16,7 +16,7 @@ returns-in-Some-mark c =
     let i = c.loop-self.invariant in
     record {
       next = found_mark c.args.self.now.line.now c.loop-self.self.line.now c.args.self.now.place c.loop-self.self.place
-          i.1 i.0 c.loop-self-test.true i.2 _ c.in-default.ensures c.in-Some-mark.ensures;
+          i.1 i.0 c.loop-self-test.true i.2 _ c.in_default.ensures c.in-Some-mark.ensures;
       same = i.1;
     }
 
@@ -26,7 +26,7 @@ loop-self-preserved c =
       omega arith,
       i.1,
       found_nothing c.args.self.now.line.now c.loop-self.self.line.now c.args.self.now.place c.loop-self.self.place
-          i.1 i.0 c.loop-self-test.true i.2 c.in-default.ensures c.in-default-mark.ensures,
+          i.1 i.0 c.loop-self-test.true i.2 c.in_default.ensures c.in_default-mark.ensures,
     )
 
 pub returns : goal.returns

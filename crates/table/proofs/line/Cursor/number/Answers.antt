@@ -8,7 +8,7 @@ make p v = record { place = p; value = v }
 
 pub returns : goal.returns
 returns c = record {
-  value = ap (make c.args.self.now.place) (c.in-range.ensures ∙ ranged_is c.args.self.now.line.now c.args.self.now.place _ c.digits-value.ensures.value c.digit-leads.result c.digit-leads.ensures);
+  value = ap (make c.args.self.now.place) (c.in_range.ensures ∙ ranged_is c.args.self.now.line.now c.args.self.now.place _ c.digits-value.ensures.value c.digit-leads.result c.digit-leads.ensures);
   after = c.digits-value.ensures.after;
   same = c.digits-value.ensures.same;
 }

@@ -5,6 +5,6 @@ use Rattle.table.proofs.nest.Nest.pop.Goals as goal
 
 pub returns : goal.returns
 returns c = record {
-  after = ap (inner c.args.self.now.values) c.saturating-sub-self.ensures ∙ inner_pop c.args.self.now.values c.args.self.now.depth;
-  depth = c.saturating-sub-self.ensures;
+  after = ap (inner c.args.self.now.values) c.saturating_sub-self.ensures ∙ inner_pop c.args.self.now.values c.args.self.now.depth;
+  depth = c.saturating_sub-self.ensures;
 }

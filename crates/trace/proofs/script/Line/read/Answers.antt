@@ -9,8 +9,8 @@ returns c =
     let given = c.args.given.now in
     record {
       given = refl;
-      call = elim c.match-from-utf8.branch [
-        | in-Ok w ↦ subst (λ (l : List ℕ). Says l c.match-from-utf8.call) w.in-Ok.ensures.cases.0 (subst (Says w.in-Ok.text.now) (sym w.call-is) w.call-call.ensures)
+      call = elim c.match-from_utf8.branch [
+        | in-Ok w ↦ subst (λ (l : List ℕ). Says l c.match-from_utf8.call) w.in-Ok.ensures.cases.0 (subst (Says w.in-Ok.text.now) (sym w.call-is) w.call-call.ensures)
         | in-Err w ↦ subst (Says given) (sym w.call-is) (λ k h. w.in-Err.ensures.cases.0 (writes_text given k h))
       ];
     }
