@@ -1,5 +1,5 @@
 -- The order of the stack, and who owns what, of every state that a run reaches.
-use Rattle.std.proofs.Common.{◌≡◌, ℕ, zero, suc, ◌<◌, ◌≤◌, true, false, ltb, List, [], ◌∷◌, map, length, get_or, Some, None, Option, refl, inl, inr, arith}
+use Rattle.std.proofs.Common.{◌≡◌, ℕ, zero, suc, ◌<◌, ◌≤◌, true, ltb, List, [], ◌∷◌, map, length, get_or, Some, None, Option, refl, inl, inr, arith}
 use Rattle.std.specs.List.{AllByRecursion as All}
 use Rattle.std.proofs.lemmas.Bool.{and_cases, both_ways, lt-ltb, ltb-false, leb-true, eq-eqb, or_left, or_right, false≢true}
 use Rattle.std.proofs.lemmas.List.{length-map}

@@ -8,7 +8,7 @@ use Rattle.machine.specs.declared.call.Call.{Call}
 use Rattle.machine.specs.declared.call.Call.TheVariants.{Advance, Enter, Leave, Finish}
 use Rattle.machine.specs.declared.call.Answer.{Answer}
 use Rattle.machine.specs.declared.call.Answer.TheVariants.{Advanced, Granted, Running, Refused}
-use Rattle.machine.specs.State.{Table, Job, State, start, relative, section_at, inherited, first_releases}
+use Rattle.machine.specs.State.{Table, Job, State, start, section_at, inherited, first_releases}
 use Rattle.machine.specs.Step.{step, not_advanced, advanced}
 use Rattle.machine.specs.Run.{state_from, reached}
 use Rattle.machine.proofs.Lists.{Sorted}

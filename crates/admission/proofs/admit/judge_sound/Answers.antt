@@ -1,7 +1,4 @@
-use Rattle.std.proofs.Common.{Err, sym, ap, ◌∙◌, subst, arith}
-use Rattle.std.proofs.lemmas.Result.{err_from_is_err_and}
-use Rattle.admission.specs.Verdict.{Verdict}
-use Rattle.admission.proofs.Settled.{admitted, undecided, refused_by_idle, refused_by_horizon}
+use Rattle.std.proofs.Common.{arith}
 use Rattle.admission.proofs.SoundFacts.{judgeable_if_sound}
 use Rattle.admission.proofs.admit.judge_sound.Goals as goal
 
@@ -15,4 +12,3 @@ fits_until-requires c = record { judgeable = judgeable_if_sound c.args.tasks.now
 
 pub fits_until-requires-in-None : goal.fits_until-requires-in-None
 fits_until-requires-in-None c = record { judgeable = judgeable_if_sound c.args.tasks.now c.args.sections.now c.requires; near = omega arith }
-
