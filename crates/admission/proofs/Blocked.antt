@@ -1,7 +1,7 @@
 -- Blocking: the longest section that can hold up jobs due by an instant.
 use Rattle.std.proofs.Common.{◌≡◌, ℕ, ◌+◌, ◌<◌, ◌≤◌, max, true, false, cond, ◌⊎◌, List, [], ◌∷◌, length, get_or, drop, Some, None, Option, refl, ap, ◌∙◌, inl, inr, arith}
 use Rattle.std.proofs.lemmas.List.{at_drop_more}
-use Rattle.std.specs.List.{AllByRecursion as All}
+use Rattle.std.specs.List.{AllByRecursion}
 use Rattle.std.proofs.ByRecursion.{All-weaker}
 use Rattle.std.proofs.lemmas.Bool.{cond_both, cond-true, cond-false, cases_lt, le-leb, lt-leb, leb-true, lt-ltb, ltb-true, and_parts, and_from, and_left}
 use Rattle.table.specs.declared.records.TaskRecord.{TaskRecord}
@@ -29,7 +29,7 @@ module _ (tasks : List TaskRecord) (ss : List SectionRecord) (i t : ℕ) (h : i 
 
 -- it is at most b where each section that can block is
 
-pub blocking_le : (tasks : List TaskRecord) (ss : List SectionRecord) (t b : ℕ) → All (λ s. blocks tasks s t ≡ true → s.length ≤ b) ss → blocking tasks ss t ≤ b
+pub blocking_le : (tasks : List TaskRecord) (ss : List SectionRecord) (t b : ℕ) → AllByRecursion (λ s. blocks tasks s t ≡ true → s.length ≤ b) ss → blocking tasks ss t ≤ b
 blocking_le tasks [] t b a = omega arith
 blocking_le tasks (s ∷ ss) t b a =
     let one : cond (blocks tasks s t) s.length 0 ≤ b = cond_both (blocks tasks s t) s.length 0 (λ n. n ≤ b) a.0 (λ e. omega arith) in
@@ -52,7 +52,7 @@ module _ (tasks : List TaskRecord) where
         ]
       ]
 
-  reaches_zero : (o : Option ℕ) → All Timed tasks → LevelOf tasks o → reaches o 0 ≡ false
+  reaches_zero : (o : Option ℕ) → AllByRecursion Timed tasks → LevelOf tasks o → reaches o 0 ≡ false
   reaches_zero None timed at = refl
   reaches_zero (Some l) timed at = lt-leb l 0 (due_pos tasks l timed (relative_due tasks at.0 l at.1))
 
@@ -68,7 +68,7 @@ module _ (tasks : List TaskRecord) where
             (λ e. omega arith))
       ]
 
-  pub blocking_quiet : (ss : List SectionRecord) (t : ℕ) → All (Leveled tasks) ss → (blocking tasks ss (t + 1) ≤ blocking tasks ss t) ⊎ Due tasks (t + 1)
+  pub blocking_quiet : (ss : List SectionRecord) (t : ℕ) → AllByRecursion (Leveled tasks) ss → (blocking tasks ss (t + 1) ≤ blocking tasks ss t) ⊎ Due tasks (t + 1)
   blocking_quiet [] t a = inl (omega arith)
   blocking_quiet (s ∷ ss) t a =
       elim (length-quiet s t a.0) [
@@ -76,13 +76,13 @@ module _ (tasks : List TaskRecord) where
         | inl one ↦ elim (blocking_quiet ss t a.1) [ inr due ↦ inr due | inl more ↦ inl (omega arith) ]
       ]
 
-  pub blocking_zero : (ss : List SectionRecord) → All Timed tasks → All (Leveled tasks) ss → blocking tasks ss 0 ≡ 0
+  pub blocking_zero : (ss : List SectionRecord) → AllByRecursion Timed tasks → AllByRecursion (Leveled tasks) ss → blocking tasks ss 0 ≡ 0
   blocking_zero [] timed a = refl
   blocking_zero (s ∷ ss) timed a =
       let none = and_left (reaches s.level 0) (later (deadline_of tasks s.task) 0) (reaches_zero s.level timed a.0) in
       omega (arith, cond-false (blocks tasks s 0) s.length 0 none, blocking_zero ss timed a.1)
 
-  pub blocking_short : (ss : List SectionRecord) (t : ℕ) → All Timed tasks → All (Owned tasks) ss → blocking tasks ss t ≤ 1048576
+  pub blocking_short : (ss : List SectionRecord) (t : ℕ) → AllByRecursion Timed tasks → AllByRecursion (Owned tasks) ss → blocking tasks ss t ≤ 1048576
   blocking_short ss t timed a =
       blocking_le tasks ss t 1048576 (All-weaker (Owned tasks) (λ s. blocks tasks s t ≡ true → s.length ≤ 1048576)
       (λ s own e. let k = nth_all Timed tasks s.task own.owner own.found timed in omega (arith, own.short, k.early, k.cyclic, k.near)) ss a)

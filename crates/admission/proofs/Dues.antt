@@ -1,6 +1,6 @@
 -- Every level is the deadline of a task of the table.
 use Rattle.std.proofs.Common.{◌≡◌, ℕ, ◌+◌, min, Bool, cond, List, [], ◌∷◌, Some, None, Option, refl, subst, ⊎_elim, arith}
-use Rattle.std.specs.List.{AllByRecursion as All, range_with_len}
+use Rattle.std.specs.List.{AllByRecursion, range_with_len}
 use Rattle.std.proofs.lemmas.Bool.{cases_lt, cond_both}
 use Rattle.std.proofs.ByRecursion.{All-map}
 use Rattle.table.specs.declared.records.TaskRecord.{TaskRecord}
@@ -9,7 +9,7 @@ use Rattle.table.specs.Level.{names, deadline_of, lesser, letter_level, letter_l
 use Rattle.admission.specs.Facts.{LevelOf}
 
 -- what holds of everything holds of a list
-all_of : {X : Type 0} (P : X → Type 0) → ((x : X) → P x) → (xs : List X) → All P xs
+all_of : {X : Type 0} (P : X → Type 0) → ((x : X) → P x) → (xs : List X) → AllByRecursion P xs
 all_of P h [] = tt
 all_of P h (x ∷ xs) = (h x, all_of P h xs)
 
@@ -34,12 +34,12 @@ module _ (tasks : List TaskRecord) where
       due_lesser (cond (names s r) (deadline_of tasks s.task) None) (letter_level tasks ss r)
       (due_if (names s r) (deadline_of tasks s.task) (due_task s.task)) (due_letter r ss)
 
-  due_letters : (ss : List SectionRecord) → All (LevelOf tasks) (letter_levels tasks ss)
+  due_letters : (ss : List SectionRecord) → AllByRecursion (LevelOf tasks) (letter_levels tasks ss)
   unfolding letter_levels
   due_letters ss =
       All-map (LevelOf tasks) (letter_level tasks ss) (range_with_len 0 26) (all_of (λ r. LevelOf tasks (letter_level tasks ss r)) (λ r. due_letter r ss) (range_with_len 0 26))
 
-  due_least : (levels : List (Option ℕ)) (r : ℕ) (s : SectionRecord) → All (LevelOf tasks) levels → LevelOf tasks (least_level levels r s)
+  due_least : (levels : List (Option ℕ)) (r : ℕ) (s : SectionRecord) → AllByRecursion (LevelOf tasks) levels → LevelOf tasks (least_level levels r s)
   due_least [] r s all = tt
   due_least (l ∷ ls) r s all = due_lesser (cond (names s r) l None) (least_level ls (r + 1) s) (due_if (names s r) l all.0) (due_least ls (r + 1) s all.1)
 

@@ -1,6 +1,6 @@
 -- What a line's items are, whatever the line says: a number that keeps its rule is at least 1, and a letter is one of 26.
 use Rattle.std.proofs.Common.{◌≡◌, ℕ, ◌+◌, ◌-◌, ◌*◌, ◌^◌, ◌<◌, ◌≤◌, Bool, true, false, eqb, leb, List, [], ◌∷◌, get_or, drop, Some, None, Option, arith}
-use Rattle.std.specs.List.{AllByRecursion as All}
+use Rattle.std.specs.List.{AllByRecursion}
 use Rattle.std.proofs.lemmas.Bool.{and_parts, cond_both, ltb-true, leb-true}
 use Rattle.std.proofs.lemmas.Nat.{pow_below}
 use Rattle.table.specs.declared.line.Numeral.{Numeral}
@@ -57,16 +57,16 @@ fine_mark p b =
     (λ e. let q = and_parts (leb 65 b) (leb b 90) e in let high = leb-true b 90 q.1 in pow_below (b - 65) 26 (omega arith))
     (λ _. cond_both (eqb b 125) (Some Close) None FineIf (λ _. tt) (λ _. tt)))
 
-fine_joined : (o : Option Item) (is : List Item) → FineIf o → All Fine is → All Fine (joined o is)
+fine_joined : (o : Option Item) (is : List Item) → FineIf o → AllByRecursion Fine is → AllByRecursion Fine (joined o is)
 fine_joined None is h k = k
 fine_joined (Some item) is h k = (h, k)
 
-fine_items : (within : Bool) (p : ℕ) (t : List ℕ) → All Fine (items within p t)
+fine_items : (within : Bool) (p : ℕ) (t : List ℕ) → AllByRecursion Fine (items within p t)
 fine_items within p [] = tt
 fine_items within p (b ∷ t) =
-    cond_both (is_digit b) _ _ (All Fine)
-    (λ _. cond_both within _ _ (All Fine) (λ _. fine_items true (p + 1) t) (λ _. (ranged_value (digit_run (b ∷ t)), fine_items true (p + 1) t)))
+    cond_both (is_digit b) _ _ (AllByRecursion Fine)
+    (λ _. cond_both within _ _ (AllByRecursion Fine) (λ _. fine_items true (p + 1) t) (λ _. (ranged_value (digit_run (b ∷ t)), fine_items true (p + 1) t)))
     (λ _. fine_joined (mark_at p b) (items false (p + 1) t) (fine_mark p b) (fine_items false (p + 1) t))
 
-pub fine_line : (line : List ℕ) → All Fine (line_items line)
+pub fine_line : (line : List ℕ) → AllByRecursion Fine (line_items line)
 fine_line line = fine_items false (body_at line) (drop (body_at line) line)

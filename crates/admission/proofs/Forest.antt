@@ -1,6 +1,6 @@
 -- The sections of a line, one inside another, from their records.
 use Rattle.std.proofs.Common.{◌≡◌, ℕ, suc, ◌+◌, ◌<◌, ◌≤◌, Bool, true, false, cond, ◌&&◌, eqb, ltb, ◌⊎◌, List, [], ◌∷◌, length, Some, None, Option, sym, refl, ap, ◌∙◌, subst, inl, inr, arith}
-use Rattle.std.specs.List.{AllByRecursion as All}
+use Rattle.std.specs.List.{AllByRecursion}
 use Rattle.std.proofs.lemmas.Bool.{and_parts, cond-true, cond-false, eq-eqb, ne_eqb, eqb-true, lt-ltb, le-ltb, false≢true}
 use Rattle.table.specs.declared.line.Item.{Item}
 use Rattle.table.specs.declared.line.Item.TheVariants.{Open, Close}
@@ -108,7 +108,7 @@ inside_short inside (o ∷ path) (inl e) = omega (arith, ap length e)
 inside_short inside (o ∷ path) (inr h) = omega (arith, inside_short inside path h)
 
 abbrev Small : List Opened → Type 0
-Small path = All (λ (o : Opened). o.length ≤ largest) path
+Small path = AllByRecursion (λ (o : Opened). o.length ≤ largest) path
 
 inside_small : (inside path : List Opened) → Inside inside path → Small path → Small inside
 inside_small inside [] h small = subst Small (sym h) tt

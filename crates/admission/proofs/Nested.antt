@@ -1,7 +1,7 @@
 -- The sections of a line that keeps the rules keep the rules as records.
 use Rattle.std.proofs.Common.{◌≡◌, ℕ, suc, ◌+◌, ◌-◌, ◌<◌, ◌≤◌, true, false, ◌&&◌, eqb, ltb, leb, List, [], ◌∷◌, map, length, Some, None, Option, unwrap_or, sym, refl, ap, ◌∙◌, arith}
 use lib.Bits.{bit_and, bit_or}
-use Rattle.std.specs.List.{AllByRecursion as All}
+use Rattle.std.specs.List.{AllByRecursion}
 use Rattle.std.proofs.lemmas.Bool.{and_parts, and_from, eq-eqb, ne_eqb, le-leb, lt-ltb, leb-true, ltb-true, cond-true, cond-false}
 use Rattle.table.specs.declared.line.Numeral.{Numeral}
 use Rattle.table.specs.declared.line.Letter.{Letter}
@@ -122,7 +122,7 @@ module _ (k cost : ℕ) (levels : List (Option ℕ)) where
   abbrev opened : List Opened → Numeral → List Item → SectionRecord
   opened inside m is = leveled levels (section_of k (top (numbers inside)) (letters_from 0 0 is) (ticks_of m))
 
-  opened_sound : (inside : List Opened) (seen : List ℕ) (m : Numeral) (is : List Item) → (1 ≤ ticks_of m) → ticks_of m ≤ longest cost inside → length inside < 8 → All Fine is → Covers seen inside → repeat_fault (named seen ∷ seen) is ≡ None → section_sound k cost inside (opened inside m is) ≡ true
+  opened_sound : (inside : List Opened) (seen : List ℕ) (m : Numeral) (is : List Item) → (1 ≤ ticks_of m) → ticks_of m ≤ longest cost inside → length inside < 8 → AllByRecursion Fine is → Covers seen inside → repeat_fault (named seen ∷ seen) is ≡ None → section_sound k cost inside (opened inside m is) ≡ true
   opened_sound inside seen m is some short shallow fine covers fresh =
       let few = run_few 0 0 is (omega arith) (omega arith) fine in
       let three = run_apart 0 0 (taken inside) (named seen) seen is (record { pair = refl; first = refl; second = refl })
@@ -139,7 +139,7 @@ module _ (k cost : ℕ) (levels : List (Option ℕ)) where
     covers,
   )
 
-  pub nested : (n : ℕ) (path inside : List Opened) (seen : List ℕ) (is : List Item) → All Fine is → number_fault is ≡ None → shallow (length inside) is ≡ true → repeat_fault seen is ≡ None → length_fault cost (lengths inside) is ≡ None → Falls n inside → Found path inside → Pending is seen inside → sections_sound k cost n path (map (leveled levels) (sections_in k n (numbers inside) is)) ≡ true
+  pub nested : (n : ℕ) (path inside : List Opened) (seen : List ℕ) (is : List Item) → AllByRecursion Fine is → number_fault is ≡ None → shallow (length inside) is ≡ true → repeat_fault seen is ≡ None → length_fault cost (lengths inside) is ≡ None → Falls n inside → Found path inside → Pending is seen inside → sections_sound k cost n path (map (leveled levels) (sections_in k n (numbers inside) is)) ≡ true
   nested n path inside seen [] fine values deep fresh short falls found pending = refl
   nested n path inside seen (Open m ∷ is) (ranged, fine) values deep fresh short falls found pending =
       let v = or_none (unreadable m) (number_fault is) values in

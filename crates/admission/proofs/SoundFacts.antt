@@ -1,6 +1,6 @@
 -- What records that break no rule keep, taken out of the check.
 use Rattle.std.proofs.Common.{◌≡◌, ℕ, ◌+◌, ◌<◌, ◌≤◌, true, false, ◌&&◌, eqb, leb, List, [], ◌∷◌, length, get_or, take, drop, Some, None, Option, sym, refl, ap, ◌∙◌, subst, arith}
-use Rattle.std.specs.List.{AllByRecursion as All, slice_get}
+use Rattle.std.specs.List.{AllByRecursion, slice_get}
 use Rattle.std.proofs.lemmas.Bool.{false≢true, and_parts, leb-true, eqb-true, cond_both}
 use Rattle.std.proofs.lemmas.List.{drop_more, length-drop, take-append-drop}
 use Rattle.std.proofs.ByRecursion.{All-append, All-weaker}
@@ -51,7 +51,7 @@ timed t ok =
     let c = and_parts (leb t.deadline t.period) _ b.1 in
     record { works = leb-true _ _ a.0; early = leb-true _ _ b.0; cyclic = leb-true _ _ c.0; near = leb-true _ _ c.1 }
 
-all_timed : (k n : ℕ) (ts : List TaskRecord) (ss : List SectionRecord) → tasks_sound k n ts ss ≡ true → All Timed ts
+all_timed : (k n : ℕ) (ts : List TaskRecord) (ss : List SectionRecord) → tasks_sound k n ts ss ≡ true → AllByRecursion Timed ts
 all_timed k n [] ss ok = tt
 all_timed k n (t ∷ ts) ss ok =
     let parts = and_parts (task_sound k n t ss) _ ok in
@@ -63,22 +63,22 @@ Short cost o = o.length ≤ cost
 
 abbrev ShortIf : ℕ → Option (List Opened) → Type 0
 ShortIf cost None = Unit {0}
-ShortIf cost (Some path) = All (Short cost) path
+ShortIf cost (Some path) = AllByRecursion (Short cost) path
 
 abbrev Mine : ℕ → ℕ → SectionRecord → Type 0
 Mine k cost s = (s.task ≡ k) × (s.length ≤ cost)
 
-short_unwound : (cost : ℕ) (a : Option ℕ) (path : List Opened) → All (Short cost) path → ShortIf cost (unwound a path)
+short_unwound : (cost : ℕ) (a : Option ℕ) (path : List Opened) → AllByRecursion (Short cost) path → ShortIf cost (unwound a path)
 short_unwound cost None path all = tt
 short_unwound cost (Some a) [] all = tt
 short_unwound cost (Some a) (o ∷ path) all =
     cond_both (eqb o.number a) (Some (o ∷ path)) (unwound (Some a) path) (ShortIf cost) (λ _. all) (λ _. short_unwound cost (Some a) path all.1)
 
-short_longest : (cost : ℕ) (path : List Opened) → All (Short cost) path → longest cost path ≤ cost
+short_longest : (cost : ℕ) (path : List Opened) → AllByRecursion (Short cost) path → longest cost path ≤ cost
 short_longest cost [] all = omega arith
 short_longest cost (o ∷ path) all = all.0
 
-mine : (k cost : ℕ) (path : List Opened) (s : SectionRecord) → All (Short cost) path → section_sound k cost path s ≡ true → Mine k cost s
+mine : (k cost : ℕ) (path : List Opened) (s : SectionRecord) → AllByRecursion (Short cost) path → section_sound k cost path s ≡ true → Mine k cost s
 mine k cost path s all ok =
     let room = sound_roomy k cost path s ok in
     let short = leb-true _ _ (roomy_short cost path s.length room) in
@@ -88,18 +88,18 @@ mine k cost path s all ok =
 -- one section of a task, and those after it
 module _
     (k cost n : ℕ) (s : SectionRecord) (ss : List SectionRecord)
-    (rest : (path : List Opened) → All (Short cost) path → sections_sound k cost (n + 1) path ss ≡ true → All (Mine k cost) ss) where
+    (rest : (path : List Opened) → AllByRecursion (Short cost) path → sections_sound k cost (n + 1) path ss ≡ true → AllByRecursion (Mine k cost) ss) where
   mine_more :
       (o : Option (List Opened)) → ShortIf cost o
       → elim o [ None ↦ false | Some inside ↦ section_sound k cost inside s && sections_sound k cost (n + 1) (opening n inside s ∷ inside) ss ] ≡ true
-      → All (Mine k cost) (s ∷ ss)
+      → AllByRecursion (Mine k cost) (s ∷ ss)
   mine_more None all ok = absurd (false≢true ok)
   mine_more (Some inside) all ok =
       let parts = and_parts (section_sound k cost inside s) _ ok in
       let here = mine k cost inside s all parts.0 in
       (here, rest (opening n inside s ∷ inside) (here.1, all) parts.1)
 
-all_mine : (k cost n : ℕ) (path : List Opened) (ss : List SectionRecord) → All (Short cost) path → sections_sound k cost n path ss ≡ true → All (Mine k cost) ss
+all_mine : (k cost n : ℕ) (path : List Opened) (ss : List SectionRecord) → AllByRecursion (Short cost) path → sections_sound k cost n path ss ≡ true → AllByRecursion (Mine k cost) ss
 all_mine k cost n path [] all ok = tt
 all_mine k cost n path (s ∷ ss) all ok =
     mine_more k cost n s ss (λ next short good. all_mine k cost (n + 1) next ss short good) (unwound s.around path) (short_unwound cost s.around path all) ok
@@ -121,7 +121,7 @@ module _ (all : List TaskRecord) (k : ℕ) (t : TaskRecord) (ts : List TaskRecor
   owned_here : (s : SectionRecord) → Mine k t.cost s → Owned all s
   owned_here s m = record { owner = t; found = ap (slice_get all) m.0 ∙ here_is; short = m.1 }
 
-all_owned : (all : List TaskRecord) (k n : ℕ) (ts : List TaskRecord) (ss : List SectionRecord) → drop k all ≡ ts → tasks_sound k n ts ss ≡ true → All (Owned all) ss
+all_owned : (all : List TaskRecord) (k n : ℕ) (ts : List TaskRecord) (ss : List SectionRecord) → drop k all ≡ ts → tasks_sound k n ts ss ≡ true → AllByRecursion (Owned all) ss
 all_owned all k n [] [] at ok = tt
 all_owned all k n [] (s ∷ ss) at ok = absurd (false≢true ok)
 all_owned all k n (t ∷ ts) ss at ok =
@@ -129,7 +129,7 @@ all_owned all k n (t ∷ ts) ss at ok =
     let count = t.sections.count in
     let own = all_mine k t.cost n [] (take count ss) tt (sound_sections k n t ss parts.0) in
     let later = all_owned all (k + 1) (n + count) ts (drop count ss) (here_after all k t ts at) parts.1 in
-    subst (All (Owned all)) (take-append-drop count ss)
+    subst (AllByRecursion (Owned all)) (take-append-drop count ss)
     (All-append (Owned all) (take count ss) (drop count ss) (All-weaker (Mine k t.cost) (Owned all) (owned_here all k t ts at) (take count ss) own) later)
 
 -- levels
@@ -142,7 +142,7 @@ same_level_lem (Some x) (Some y) ok = ap Some (eqb-true x y ok)
 level_of : (ts : List TaskRecord) (all : List SectionRecord) (s : SectionRecord) → level_sound ts all s ≡ true → Leveled ts s
 level_of ts all s ok = subst (LevelOf ts) (sym (same_level_lem s.level (section_level ts all s) ok)) (due_section ts all s)
 
-all_leveled : (ts : List TaskRecord) (all ss : List SectionRecord) → levels_sound ts all ss ≡ true → All (Leveled ts) ss
+all_leveled : (ts : List TaskRecord) (all ss : List SectionRecord) → levels_sound ts all ss ≡ true → AllByRecursion (Leveled ts) ss
 all_leveled ts all [] ok = tt
 all_leveled ts all (s ∷ ss) ok =
     let parts = and_parts (level_sound ts all s) _ ok in

@@ -1,7 +1,7 @@
 -- The letters right behind a section's brace, where no letter is named again.
 use Rattle.std.proofs.Common.{◌≡◌, ℕ, ◌^◌, ◌<◌, Bool, true, false, cond, eqb, List, [], ◌∷◌, Some, None, Option, refl, arith}
 use lib.Bits.{bit_and, bit_or}
-use Rattle.std.specs.List.{AllByRecursion as All}
+use Rattle.std.specs.List.{AllByRecursion}
 use Rattle.std.proofs.lemmas.Bool.{eqb-true, cond_both}
 use Rattle.std.proofs.lemmas.Nat.{or_lt}
 use Rattle.table.specs.declared.line.Item.{Item}
@@ -44,7 +44,7 @@ pub record Few (ls : Letters) : Type 0 where
   pub small : ls.small < 2 ^ 26
   pub capital : ls.capital < 2 ^ 26
 
-pub run_few : (a b : ℕ) (is : List Item) → a < 2 ^ 26 → b < 2 ^ 26 → All Fine is → Few (letters_from a b is)
+pub run_few : (a b : ℕ) (is : List Item) → a < 2 ^ 26 → b < 2 ^ 26 → AllByRecursion Fine is → Few (letters_from a b is)
 run_few a b [] p q all = record { small = p; capital = q }
 run_few a b (Open n ∷ is) p q all = record { small = p; capital = q }
 run_few a b (Close ∷ is) p q all = record { small = p; capital = q }

@@ -1,6 +1,6 @@
 -- The text of records that keep the rules, and what the reader makes of it: the records, but for levels and names.
 use Rattle.std.proofs.Common.{◌≡◌, ℕ, suc, ◌+◌, ◌*◌, ◌<◌, ◌≤◌, true, eqb, ltb, List, [], ◌∷◌, ◌++◌, map, length, take, drop, Ok, sym, refl, ap, ◌∙◌, arith}
-use Rattle.std.specs.List.{AllByRecursion as All}
+use Rattle.std.specs.List.{AllByRecursion}
 use Rattle.std.proofs.lemmas.Bool.{and_parts, cond-false, eqb-true, le-ltb, ne_eqb, false≢true}
 use Rattle.std.proofs.lemmas.List.{map-append, length-append, length-take-le, length-drop, take-append-drop}
 use Rattle.table.specs.declared.records.Counts.{Counts}
@@ -83,7 +83,7 @@ module _ (k n : ℕ) (t : TaskRecord) (ss : List SectionRecord) (timed : Timed t
   own_long : length line ≤ 33 + 63 * t.sections.count
   own_long = omega (arith, line_long n t own, opens_line (line_for n t own), own_opens)
 
-tasks_back : (place k n : ℕ) (ts : List TaskRecord) (ss : List SectionRecord) → All Timed ts → tasks_sound k n ts ss ≡ true → map nameless (tasks_of place n (map render (lines_for n ts ss))) ≡ map nameless ts
+tasks_back : (place k n : ℕ) (ts : List TaskRecord) (ss : List SectionRecord) → AllByRecursion Timed ts → tasks_sound k n ts ss ≡ true → map nameless (tasks_of place n (map render (lines_for n ts ss))) ≡ map nameless ts
 tasks_back place k n [] ss all ok = refl
 tasks_back place k n (t ∷ ts) ss (timed, all) ok =
     let parts = and_parts (task_sound k n t ss) _ ok in
@@ -94,7 +94,7 @@ tasks_back place k n (t ∷ ts) ss (timed, all) ok =
     ∙ ap (λ x. nameless t ∷ map nameless (tasks_of (place + length here) (n + x) later)) (own_opens k n t ss timed parts.0)
     ∙ ap (λ x. nameless t ∷ x) (tasks_back (place + length here) (k + 1) (n + c) ts (drop c ss) all parts.1)
 
-sections_back : (k n : ℕ) (ts : List TaskRecord) (ss : List SectionRecord) → All Timed ts → tasks_sound k n ts ss ≡ true → sections_of k n (map render (lines_for n ts ss)) ≡ map strip ss
+sections_back : (k n : ℕ) (ts : List TaskRecord) (ss : List SectionRecord) → AllByRecursion Timed ts → tasks_sound k n ts ss ≡ true → sections_of k n (map render (lines_for n ts ss)) ≡ map strip ss
 sections_back k n [] [] all ok = refl
 sections_back k n [] (s ∷ ss) all ok = absurd (false≢true ok)
 sections_back k n (t ∷ ts) ss (timed, all) ok =
@@ -108,7 +108,7 @@ sections_back k n (t ∷ ts) ss (timed, all) ok =
     ∙ sym (map-append strip (take c ss) (drop c ss)) ∙ ap (map strip) (take-append-drop c ss)
 
 lines_judged_lem :
-    (room : Counts) (k n : ℕ) (ts : List TaskRecord) (ss : List SectionRecord) → All Timed ts → tasks_sound k n ts ss ≡ true
+    (room : Counts) (k n : ℕ) (ts : List TaskRecord) (ss : List SectionRecord) → AllByRecursion Timed ts → tasks_sound k n ts ss ≡ true
     → k + length ts ≤ room.tasks → n + length ss ≤ room.sections
     → lines_judged room (counts k n) (map render (lines_for n ts ss)) ≡ Ok (counts (k + length ts) (n + length ss))
 lines_judged_lem room k n [] [] all ok free fits = ap (λ x. Ok (counts x n)) (let e : k ≡ k + 0 = omega arith in e) ∙ ap (λ x. Ok (counts (k + 0) x)) (let e : n ≡ n + 0 = omega arith in e)
@@ -125,7 +125,7 @@ lines_judged_lem room k n (t ∷ ts) ss (timed, all) ok free fits =
     ∙ ap (λ x. Ok (counts x (n + c + length rest))) (let e : k + 1 + length ts ≡ k + suc (length ts) = omega arith in e)
     ∙ ap (λ x. Ok (counts (k + suc (length ts)) x)) (let e : n + c + length rest ≡ n + length ss = omega arith in e)
 
-text_long : (k n : ℕ) (ts : List TaskRecord) (ss : List SectionRecord) → All Timed ts → tasks_sound k n ts ss ≡ true → length (render_all (lines_for n ts ss)) ≤ 33 * length ts + 63 * length ss
+text_long : (k n : ℕ) (ts : List TaskRecord) (ss : List SectionRecord) → AllByRecursion Timed ts → tasks_sound k n ts ss ≡ true → length (render_all (lines_for n ts ss)) ≤ 33 * length ts + 63 * length ss
 text_long k n [] ss all ok = omega arith
 text_long k n (t ∷ ts) ss (timed, all) ok =
     let parts = and_parts (task_sound k n t ss) _ ok in
@@ -149,7 +149,7 @@ some_text n (t ∷ ts) ss some e = omega arith
 abbrev pub text_for : List TaskRecord → List SectionRecord → List ℕ
 text_for ts ss = render_all (lines_for 0 ts ss)
 
-module _ (ts : List TaskRecord) (ss : List SectionRecord) (some : 1 ≤ length ts) (few : length ts ≤ 32) (short : length ss ≤ 64) (all : All Timed ts) (ok : tasks_sound 0 0 ts ss ≡ true) where
+module _ (ts : List TaskRecord) (ss : List SectionRecord) (some : 1 ≤ length ts) (few : length ts ≤ 32) (short : length ss ≤ 64) (all : AllByRecursion Timed ts) (ok : tasks_sound 0 0 ts ss ≡ true) where
   pub text_judged : judged (text_for ts ss) (length ts) (length ss) ≡ Ok (counts (length ts) (length ss))
   unfolding judged
   text_judged =

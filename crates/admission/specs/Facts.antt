@@ -1,7 +1,7 @@
 -- What the rules of a table give to whoever judges it: times that lie in order and are not too large, sections that are no longer than
 -- their task runs, and levels that are deadlines. `Judgeable` has all of it, and holds of all records that break no rule.
 use Rattle.std.specs.Prelude.{◌≡◌, ℕ, ◌≤◌, List, length, Some, None, Option}
-use Rattle.std.specs.List.{AllByRecursion as All, slice_get}
+use Rattle.std.specs.List.{AllByRecursion, slice_get}
 use Rattle.table.specs.declared.records.TaskRecord.{TaskRecord}
 use Rattle.table.specs.declared.records.SectionRecord.{SectionRecord}
 use Rattle.table.specs.Limits.{largest, most_tasks}
@@ -33,6 +33,6 @@ Leveled tasks s = LevelOf tasks s.level
 pub record Judgeable (tasks : List TaskRecord) (sections : List SectionRecord) : Type 0 where
   pub any : 1 ≤ length tasks
   pub few : length tasks ≤ most_tasks
-  pub timed : All Timed tasks
-  pub owned : All (Owned tasks) sections
-  pub leveled : All (Leveled tasks) sections
+  pub timed : AllByRecursion Timed tasks
+  pub owned : AllByRecursion (Owned tasks) sections
+  pub leveled : AllByRecursion (Leveled tasks) sections

@@ -1,6 +1,6 @@
 //! What the tasks of a table ask for by an instant, and how long a section can hold them up.
 ghost use Rattle.std.specs.Prelude.{◌≡◌, ◌≤◌, length};
-ghost use Rattle.std.specs.List.{AllByRecursion as All};
+ghost use Rattle.std.specs.List.{AllByRecursion};
 ghost use Rattle.table.specs.Limits.{most_tasks};
 ghost use Rattle.admission.specs.Demand.{demand_of, demand, reaches, later, blocks, blocking};
 ghost use Rattle.admission.specs.Facts.{Timed};
@@ -48,7 +48,7 @@ fn can_block(tasks: &[TaskRecord], section: &SectionRecord, t: u32) -> bool
 /// What the jobs of all tasks that are due by `t` ask for.
 pub(crate) fn demand_by(tasks: &[TaskRecord], t: u32) -> u32
     requires few { length tasks.now ≤ most_tasks }
-    requires timed { All Timed tasks.now }
+    requires timed { AllByRecursion Timed tasks.now }
     requires near { t ≤ horizon }
     ensures { result ≡ demand tasks.now t }
 {

@@ -1,6 +1,6 @@
 //! The idle instant: the first by which the tasks have asked for just as much time as has passed.
 ghost use Rattle.std.specs.Prelude.{◌≡◌, ℕ, ◌<◌, ◌≤◌, length, MatchOption};
-ghost use Rattle.std.specs.List.{AllByRecursion as All};
+ghost use Rattle.std.specs.List.{AllByRecursion};
 ghost use Rattle.table.specs.Limits.{most_tasks};
 ghost use Rattle.admission.specs.Demand.{workload_of, workload};
 ghost use Rattle.admission.specs.Facts.{Timed};
@@ -23,7 +23,7 @@ fn task_workload(task: &TaskRecord, t: u32) -> u32
 /// What the jobs of all tasks that are released before `t` ask for.
 fn workload_by(tasks: &[TaskRecord], t: u32) -> u32
     requires few { length tasks.now ≤ most_tasks }
-    requires timed { All Timed tasks.now }
+    requires timed { AllByRecursion Timed tasks.now }
     requires near { t ≤ horizon }
     ensures { result ≡ workload tasks.now t }
 {
@@ -39,7 +39,7 @@ fn workload_by(tasks: &[TaskRecord], t: u32) -> u32
 pub(crate) fn idle_instant(tasks: &[TaskRecord]) -> Option<u32>
     requires any { 1 ≤ length tasks.now }
     requires few { length tasks.now ≤ most_tasks }
-    requires timed { All Timed tasks.now }
+    requires timed { AllByRecursion Timed tasks.now }
     ensures { MatchOption result ((u : ℕ) → Idle tasks.now u → horizon < u) (λ t. Idle tasks.now t × (t ≤ horizon)) }
 {
     let mut t = 1;

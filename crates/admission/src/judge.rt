@@ -1,7 +1,7 @@
 //! Judging: whether what is asked for fits, at each instant up to a last one. Only deadlines are looked at, since no more is asked
 //! for at any other instant than at the one before.
 ghost use Rattle.std.specs.Prelude.{◌≤◌, length, MatchResult};
-ghost use Rattle.std.specs.List.{AllByRecursion as All};
+ghost use Rattle.std.specs.List.{AllByRecursion};
 ghost use Rattle.admission.specs.Due.{NextOf, Next};
 ghost use Rattle.admission.specs.Facts.{Timed, Judgeable};
 ghost use Rattle.admission.specs.Until.{FitsUntil, RefusedBy};
@@ -23,7 +23,7 @@ fn task_deadline(task: &TaskRecord, t: u32) -> u32
 /// The first deadline of any task past `t`.
 fn next_deadline(tasks: &[TaskRecord], t: u32) -> u32
     requires any { 1 ≤ length tasks.now }
-    requires timed { All Timed tasks.now }
+    requires timed { AllByRecursion Timed tasks.now }
     requires near { t ≤ horizon }
     ensures { Next tasks.now t result }
 {

@@ -1,6 +1,6 @@
 -- An advance that is not refused goes no further than what is due.
 use Rattle.std.proofs.Common.{◌≡◌, ℕ, ◌<◌, ◌≤◌, min, Bool, true, false, cond, ltb, List, [], ◌∷◌, Some, None, Option, refl, arith}
-use Rattle.std.specs.List.{AllByRecursion as All}
+use Rattle.std.specs.List.{AllByRecursion}
 use Rattle.std.proofs.lemmas.Bool.{cond-false, ltb-false}
 use Rattle.queue.specs.declared.waiting.Waiting.{Waiting}
 use Rattle.queue.specs.declared.released.Released.{Released}
@@ -40,23 +40,23 @@ accepted t s e =
     let b = cond_none (ltb last_instant t) Far _ a.1 in
     (ltb-false _ _ a.0, due_refusal (beyond t (due s)) b.1)
 
-first_waits : (t : ℕ) (w : List Waiting) → Sorted (λ a. a.release) w → beyond t (first_release w) ≡ None → All (λ a. t ≤ a.release) w
+first_waits : (t : ℕ) (w : List Waiting) → Sorted (λ a. a.release) w → beyond t (first_release w) ≡ None → AllByRecursion (λ a. t ≤ a.release) w
 first_waits t [] so e = tt
 first_waits t (a ∷ w) so e = let le = upto t a.release e in (le, all_map (λ z. a.release ≤ z.release) (λ z. t ≤ z.release) (λ z h. omega arith) w so.0)
 
-first_out : (t : ℕ) (r : List Released) → Sorted (λ e. e.deadline) r → beyond t (first_deadline r) ≡ None → All (λ e. t ≤ e.deadline) r
+first_out : (t : ℕ) (r : List Released) → Sorted (λ e. e.deadline) r → beyond t (first_deadline r) ≡ None → AllByRecursion (λ e. t ≤ e.deadline) r
 first_out t [] so e = tt
 first_out t (a ∷ r) so e = let le = upto t a.deadline e in (le, all_map (λ z. a.deadline ≤ z.deadline) (λ z. t ≤ z.deadline) (λ z h. omega arith) r so.0)
 
-first_stands : (t : ℕ) (s : List Job) → Rising (λ q. q.deadline) s → beyond t (top_deadline s) ≡ None → All (λ q. t ≤ q.deadline) s
+first_stands : (t : ℕ) (s : List Job) → Rising (λ q. q.deadline) s → beyond t (top_deadline s) ≡ None → AllByRecursion (λ q. t ≤ q.deadline) s
 first_stands t [] ri e = tt
 first_stands t (q ∷ qs) ri e = let le = upto t q.deadline e in (le, all_map (λ z. q.deadline < z.deadline) (λ z. t ≤ z.deadline) (λ z h. omega arith) qs ri.0)
 
 -- everything is due at t or later
 pub record Ahead (t : ℕ) (w : List Waiting) (r : List Released) (s : List Job) : Type 0 where
-  pub waits : All (λ a. t ≤ a.release) w
-  pub readies : All (λ e. t ≤ e.deadline) r
-  pub jobs : All (λ q. t ≤ q.deadline) s
+  pub waits : AllByRecursion (λ a. t ≤ a.release) w
+  pub readies : AllByRecursion (λ e. t ≤ e.deadline) r
+  pub jobs : AllByRecursion (λ q. t ≤ q.deadline) s
 
 pub ahead : (k : Table) (c t : ℕ) (s : State) → Shape k c s.waiting s.released s.stack → beyond t (due s) ≡ None → Ahead t s.waiting s.released s.stack
 ahead k c t s i e =

@@ -1,6 +1,6 @@
 -- In an advance, a job that is taken away has run its whole time, and no released job is taken away.
 use Rattle.std.proofs.Common.{◌≡◌, ℕ, ◌-◌, ◌≤◌, Bool, true, ◌⊎◌, List, [], ◌∷◌, inl, inr, arith}
-use Rattle.std.specs.List.{AllByRecursion as All}
+use Rattle.std.specs.List.{AllByRecursion}
 use Rattle.std.proofs.lemmas.Bool.{cond_both, false≢true}
 use Rattle.queue.specs.declared.waiting.Waiting.{Waiting}
 use Rattle.queue.specs.declared.released.Released.{Released}
@@ -22,7 +22,7 @@ use Rattle.machine.proofs.Lawful.{blocked, pop_law, push_law, enter_law, leave_l
 
 -- the longest stay of each open section fits its length
 abbrev pub Caps : Table → (ℕ → ℕ) → List Job → Type 0
-Caps k S s = All (λ q. All (λ o. S o.serial ≤ (section_at k o.section).length) q.opened) s
+Caps k S s = AllByRecursion (λ q. AllByRecursion (λ o. S o.serial ≤ (section_at k o.section).length) q.opened) s
 
 -- the invariant of a run in which every job and every stay keeps its bound
 pub record Sure (k : Table) (S : ℕ → ℕ) (ran : ℕ → ℕ → ℕ) (st : ℕ → ℕ) (c : ℕ) (w : List Waiting) (r : List Released) (s : List Job) : Type 0 where

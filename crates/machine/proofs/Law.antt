@@ -1,6 +1,6 @@
 -- The law of an admitted run: up to each instant, what is still asked for fits, along with what is left of a blocking section.
 use Rattle.std.proofs.Common.{◌≡◌, ℕ, ◌+◌, ◌-◌, ◌<◌, ◌≤◌, Bool, true, false, cond, ◌||◌, ltb, leb, ◌⊎◌, List, [], ◌∷◌, Some, None, Option, refl, ap, inl, inr, arith}
-use Rattle.std.specs.List.{AllByRecursion as All}
+use Rattle.std.specs.List.{AllByRecursion}
 use Rattle.std.proofs.lemmas.Bool.{cond_both, cond-true, cond-false, leb-true, le-leb, lt-leb, lt-ltb, le-ltb, cases_lt, cases_Bool, or_left, or_right, or_parts, false≢true}
 use Rattle.queue.specs.declared.waiting.Waiting.{Waiting}
 use Rattle.queue.specs.declared.released.Released.{Released}
@@ -38,13 +38,13 @@ of_job k ran d q =
 
 -- no pending job has a deadline up to d
 abbrev pub Quiet : ℕ → List Released → List Job → Type 0
-Quiet d r s = All (λ e. d < e.deadline) r × All (λ q. d < q.deadline) s
+Quiet d r s = AllByRecursion (λ e. d < e.deadline) r × AllByRecursion (λ q. d < q.deadline) s
 
 -- pending jobs with deadlines up to d were released from an instant on, and all that is asked for by d fits
 pub record Busy (k : Table) (ran : ℕ → ℕ → ℕ) (st : ℕ → ℕ) (d c : ℕ) (w : List Waiting) (r : List Released) (s : List Job) : Type 0 where
   pub from : ℕ
   pub past : from ≤ c
-  pub after : All (λ e. e.deadline ≤ d → from + relative k e.task ≤ e.deadline) r
+  pub after : AllByRecursion (λ e. e.deadline ≤ d → from + relative k e.task ≤ e.deadline) r
   pub room : c + (tot (of_waiting k d) w + tot (of_released k d) r + tot (of_job k ran d) s) + left_past k st d (d - from) s ≤ d
 
 abbrev pub Law : Table → (ℕ → ℕ → ℕ) → (ℕ → ℕ) → ℕ → List Waiting → List Released → List Job → Type 0
@@ -73,8 +73,8 @@ module _ (k : Table) where
   left_zero st L (o ∷ os) h = let p = or_parts (low k L os) _ h in rw (p.0, p.1)
 
   -- a stay goes on
-  pub left_tick : (st st' : ℕ → ℕ) (δ L : ℕ) (os : List Open) → low k L os ≡ true → All (λ o. st' o.serial ≡ st o.serial + δ) os
-      → All (λ o. st' o.serial ≤ (section_at k o.section).length) os → left_in k st' L os + δ ≡ left_in k st L os
+  pub left_tick : (st st' : ℕ → ℕ) (δ L : ℕ) (os : List Open) → low k L os ≡ true → AllByRecursion (λ o. st' o.serial ≡ st o.serial + δ) os
+      → AllByRecursion (λ o. st' o.serial ≤ (section_at k o.section).length) os → left_in k st' L os + δ ≡ left_in k st L os
   left_tick st st' δ L [] h a b = absurd (false≢true h)
   left_tick st st' δ L (o ∷ os) h a b =
       elim (cases_Bool (low k L os)) [
@@ -109,7 +109,7 @@ module _ (k : Table) where
         | inr f ↦ omega (arith, left_zero st L os f)
       ]
 
-  pub left_bound : (st : ℕ → ℕ) (L b : ℕ) (os : List Open) → All (λ o. reaches (section_at k o.section).level L ≡ true → (section_at k o.section).length ≤ b) os → left_in k st L os ≤ b
+  pub left_bound : (st : ℕ → ℕ) (L b : ℕ) (os : List Open) → AllByRecursion (λ o. reaches (section_at k o.section).level L ≡ true → (section_at k o.section).length ≤ b) os → left_in k st L os ≤ b
   left_bound st L b [] a = omega arith
   left_bound st L b (o ∷ os) a =
       cond_both (low k L os) (left_in k st L os) (cond (reaches (section_at k o.section).level L) ((section_at k o.section).length - st o.serial) 0) (λ n. n ≤ b)

@@ -1,6 +1,6 @@
 -- Each part of a call keeps the law.
 use Rattle.std.proofs.Common.{◌≡◌, ℕ, ◌+◌, ◌-◌, ◌<◌, ◌≤◌, true, ltb, ◌⊎◌, List, [], ◌∷◌, length, ap, inl, inr, arith}
-use Rattle.std.specs.List.{AllByRecursion as All}
+use Rattle.std.specs.List.{AllByRecursion}
 use Rattle.std.proofs.lemmas.Bool.{lt-ltb, ltb-false, cases_lt, and_cases, both_ways, true≢false}
 use Rattle.queue.specs.declared.waiting.Waiting.{Waiting}
 use Rattle.queue.specs.declared.released.Released.{Released}
@@ -20,8 +20,8 @@ use Rattle.machine.proofs.Law.{low, left_in, left_past, of_waiting, of_released,
 pub record Ticks (k : Table) (δ : ℕ) (ran ran' : ℕ → ℕ → ℕ) (st st' : ℕ → ℕ) (q : Job) : Type 0 where
   pub top : ran' q.task q.deadline ≡ ran q.task q.deadline + δ
   pub cap : ran' q.task q.deadline ≤ cost k q.task
-  pub stays : All (λ o. st' o.serial ≡ st o.serial + δ) q.opened
-  pub caps : All (λ o. st' o.serial ≤ (section_at k o.section).length) q.opened
+  pub stays : AllByRecursion (λ o. st' o.serial ≡ st o.serial + δ) q.opened
+  pub caps : AllByRecursion (λ o. st' o.serial ≤ (section_at k o.section).length) q.opened
 
 abbrev pub Top : Table → ℕ → (ℕ → ℕ → ℕ) → (ℕ → ℕ → ℕ) → (ℕ → ℕ) → (ℕ → ℕ) → List Job → Type 0
 Top k δ ran ran' st st' [] = Unit {0}
@@ -30,8 +30,8 @@ Top k δ ran ran' st st' (q ∷ qs) = Ticks k δ ran ran' st st' q
 module _ (k : Table) (ok : Fit k) where
   -- a running job with a deadline past d, while a released one is due by d, is in a section with a low level
   pub blocked : (c d from : ℕ) (r : List Released) (q : Job) (qs : List Job) → d < q.deadline → Settled k r (q ∷ qs)
-      → All (EntryOk k c) r → Sorted (λ e. e.deadline) r → Rising (λ p. p.deadline) (q ∷ qs) → Inward k r q
-      → All (λ e. e.deadline ≤ d → from + relative k e.task ≤ e.deadline) r
+      → AllByRecursion (EntryOk k c) r → Sorted (λ e. e.deadline) r → Rising (λ p. p.deadline) (q ∷ qs) → Inward k r q
+      → AllByRecursion (λ e. e.deadline ≤ d → from + relative k e.task ≤ e.deadline) r
       → Quiet d r (q ∷ qs) ⊎ (low k (d - from) q.opened ≡ true)
   blocked c d from [] q qs h st en so ri inw af = inl (tt, (h, all_map (λ p. q.deadline < p.deadline) (λ p. d < p.deadline) (λ p g. omega arith) qs ri.0))
   blocked c d from (e ∷ es) q qs h st en so ri inw af =
@@ -51,7 +51,7 @@ module _ (k : Table) (ok : Fit k) where
             inr (low_from k (relative k q.task) (relative k e.task) (d - from) q.opened (omega arith) (inw.0 lt) (omega (arith, af.0 due)))
       ]
 
-  idle_ready : (d : ℕ) (r : List Released) → Settled k r [] → All (λ e. d < e.deadline) r
+  idle_ready : (d : ℕ) (r : List Released) → Settled k r [] → AllByRecursion (λ e. d < e.deadline) r
   idle_ready d [] st = tt
   idle_ready d (e ∷ es) st = absurd (true≢false st)
 
@@ -195,7 +195,7 @@ module _ (k : Table) (ok : Fit k) where
       pub leave_law : (o : Open) (os : List Open) → q.opened ≡ o ∷ os → Law k ran st c w r (with_open q os ∷ qs)
       leave_law o os e = reopened os (λ d far b. inr (rw e (left_closed k st (d - b.from) o os)))
 
-    past_bound : (d c : ℕ) (s : List Job) → c < d → All (λ q. d < q.deadline) s → All (JobOk k c) s → left_past k st d (d - c) s ≤ d - c - demand k.tasks (d - c)
+    past_bound : (d c : ℕ) (s : List Job) → c < d → AllByRecursion (λ q. d < q.deadline) s → AllByRecursion (JobOk k c) s → left_past k st d (d - c) s ≤ d - c - demand k.tasks (d - c)
     past_bound d c [] lt far js = omega arith
     past_bound d c (q ∷ qs) lt far js =
         rw (past_take k st d (d - c) q qs far.0)

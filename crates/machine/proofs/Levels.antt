@@ -1,6 +1,6 @@
 -- A section's level is at most the D of every task that names one of its resources.
 use Rattle.std.proofs.Common.{◌≡◌, ℕ, zero, suc, ◌+◌, ◌<◌, ◌≤◌, min, true, cond, leb, List, [], ◌∷◌, map, length, get_or, Some, None, Option, refl, ap, ◌∙◌, inl, inr, arith}
-use Rattle.std.specs.List.{AllByRecursion as All, range_with_len}
+use Rattle.std.specs.List.{AllByRecursion, range_with_len}
 use Rattle.std.proofs.lemmas.Bool.{and_parts, leb-true, le-leb, eqb-true, false≢true, cond-true, cases_lt}
 use Rattle.std.proofs.ByRecursion.{All-get_or}
 use Rattle.table.specs.declared.records.TaskRecord.{TaskRecord}
@@ -57,7 +57,7 @@ same_level_lem None (Some y) e = absurd (false≢true e)
 same_level_lem (Some x) None e = absurd (false≢true e)
 same_level_lem (Some x) (Some y) e = ap Some (eqb-true x y e)
 
-all_levels : (ts : List TaskRecord) (all ss : List SectionRecord) → levels_sound ts all ss ≡ true → All (λ s. s.level ≡ section_level ts all s) ss
+all_levels : (ts : List TaskRecord) (all ss : List SectionRecord) → levels_sound ts all ss ≡ true → AllByRecursion (λ s. s.level ≡ section_level ts all s) ss
 all_levels ts all [] e = tt
 all_levels ts all (s ∷ ss) e =
     let p = and_parts (level_sound ts all s) _ e in

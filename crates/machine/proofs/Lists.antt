@@ -1,6 +1,6 @@
 -- Sums over a list, facts of each element, and order, under sorted insertion.
 use Rattle.std.proofs.Common.{◌≡◌, ℕ, ◌+◌, ◌<◌, ◌≤◌, Bool, true, false, ◌⊎◌, List, [], ◌∷◌, refl, arith}
-use Rattle.std.specs.List.{AllByRecursion as All}
+use Rattle.std.specs.List.{AllByRecursion}
 use Rattle.std.proofs.lemmas.Bool.{cond_both}
 use Rattle.queue.specs.Order.{insert_sorted}
 
@@ -15,46 +15,46 @@ tot_insert f b x (y ∷ ys) =
     let ih = tot_insert f b x ys in
     cond_both (b x y) (x ∷ y ∷ ys) (y ∷ insert_sorted b x ys) (λ zs. tot f zs ≡ f x + (f y + tot f ys)) (λ _. refl) (λ _. omega arith)
 
-pub tot_le : {X : Type 0} (f g : X → ℕ) (xs : List X) → All (λ x. f x ≤ g x) xs → tot f xs ≤ tot g xs
+pub tot_le : {X : Type 0} (f g : X → ℕ) (xs : List X) → AllByRecursion (λ x. f x ≤ g x) xs → tot f xs ≤ tot g xs
 tot_le f g [] h = omega arith
 tot_le f g (x ∷ xs) h = let ih = tot_le f g xs h.1 in omega arith
 
-pub tot_none : {X : Type 0} (f : X → ℕ) (xs : List X) → All (λ x. f x ≡ 0) xs → tot f xs ≡ 0
+pub tot_none : {X : Type 0} (f : X → ℕ) (xs : List X) → AllByRecursion (λ x. f x ≡ 0) xs → tot f xs ≡ 0
 tot_none f [] a = refl
 tot_none f (x ∷ xs) a = let ih = tot_none f xs a.1 in omega arith
 
-pub none_tot : {X : Type 0} (f : X → ℕ) (xs : List X) → tot f xs ≡ 0 → All (λ x. f x ≡ 0) xs
+pub none_tot : {X : Type 0} (f : X → ℕ) (xs : List X) → tot f xs ≡ 0 → AllByRecursion (λ x. f x ≡ 0) xs
 none_tot f [] e = tt
 none_tot f (x ∷ xs) e = (omega arith, none_tot f xs (omega arith))
 
-pub tot_le2 : {X : Type 0} (f e g h : X → ℕ) (xs : List X) → All (λ x. f x + e x ≤ g x + h x) xs → tot f xs + tot e xs ≤ tot g xs + tot h xs
+pub tot_le2 : {X : Type 0} (f e g h : X → ℕ) (xs : List X) → AllByRecursion (λ x. f x + e x ≤ g x + h x) xs → tot f xs + tot e xs ≤ tot g xs + tot h xs
 tot_le2 f e g h [] a = omega arith
 tot_le2 f e g h (x ∷ xs) a = let ih = tot_le2 f e g h xs a.1 in omega arith
 
-pub all_insert : {X : Type 0} (P : X → Type 0) (b : X → X → Bool) (x : X) (xs : List X) → P x → All P xs → All P (insert_sorted b x xs)
+pub all_insert : {X : Type 0} (P : X → Type 0) (b : X → X → Bool) (x : X) (xs : List X) → P x → AllByRecursion P xs → AllByRecursion P (insert_sorted b x xs)
 all_insert P b x [] p h = (p, tt)
 all_insert P b x (y ∷ ys) p h =
-    cond_both (b x y) (x ∷ y ∷ ys) (y ∷ insert_sorted b x ys) (All P) (λ _. (p, h)) (λ _. (h.0, all_insert P b x ys p h.1))
+    cond_both (b x y) (x ∷ y ∷ ys) (y ∷ insert_sorted b x ys) (AllByRecursion P) (λ _. (p, h)) (λ _. (h.0, all_insert P b x ys p h.1))
 
-pub all_map : {X : Type 0} (P Q : X → Type 0) → ((x : X) → P x → Q x) → (xs : List X) → All P xs → All Q xs
+pub all_map : {X : Type 0} (P Q : X → Type 0) → ((x : X) → P x → Q x) → (xs : List X) → AllByRecursion P xs → AllByRecursion Q xs
 all_map P Q f [] h = tt
 all_map P Q f (x ∷ xs) h = (f x h.0, all_map P Q f xs h.1)
 
-pub all_map2 : {X : Type 0} (P Q R : X → Type 0) → ((x : X) → P x → Q x → R x) → (xs : List X) → All P xs → All Q xs → All R xs
+pub all_map2 : {X : Type 0} (P Q R : X → Type 0) → ((x : X) → P x → Q x → R x) → (xs : List X) → AllByRecursion P xs → AllByRecursion Q xs → AllByRecursion R xs
 all_map2 P Q R f [] h g = tt
 all_map2 P Q R f (x ∷ xs) h g = (f x h.0 g.0, all_map2 P Q R f xs h.1 g.1)
 
-pub all_every : {X : Type 0} (P : X → Type 0) → ((x : X) → P x) → (xs : List X) → All P xs
+pub all_every : {X : Type 0} (P : X → Type 0) → ((x : X) → P x) → (xs : List X) → AllByRecursion P xs
 all_every P f [] = tt
 all_every P f (x ∷ xs) = (f x, all_every P f xs)
 
 abbrev pub Sorted : {X : Type 0} → (X → ℕ) → List X → Type 0
 Sorted f [] = Unit {0}
-Sorted f (x ∷ xs) = All (λ y. f x ≤ f y) xs × Sorted f xs
+Sorted f (x ∷ xs) = AllByRecursion (λ y. f x ≤ f y) xs × Sorted f xs
 
 abbrev pub Rising : {X : Type 0} → (X → ℕ) → List X → Type 0
 Rising f [] = Unit {0}
-Rising f (x ∷ xs) = All (λ y. f x < f y) xs × Rising f xs
+Rising f (x ∷ xs) = AllByRecursion (λ y. f x < f y) xs × Rising f xs
 
 -- b goes by f
 abbrev pub By : {X : Type 0} → (X → X → Bool) → (X → ℕ) → Type 0

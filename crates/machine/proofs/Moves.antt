@@ -1,6 +1,6 @@
 -- Each part of a call keeps the shape.
 use Rattle.std.proofs.Common.{◌≡◌, ℕ, ◌+◌, ◌-◌, ◌<◌, ◌≤◌, true, ltb, List, [], ◌∷◌, length, refl, arith}
-use Rattle.std.specs.List.{AllByRecursion as All}
+use Rattle.std.specs.List.{AllByRecursion}
 use Rattle.std.proofs.lemmas.Bool.{ltb-true, and_parts}
 use Rattle.queue.specs.declared.waiting.Waiting.{Waiting}
 use Rattle.queue.specs.declared.released.Released.{Released}
@@ -26,7 +26,7 @@ with_open q os = record { task = q.task; deadline = q.deadline; opened = os }
 module _ (k : Table) (ok : Fit k) where
   -- the clock moves on, not past what is due
   pub tick_shape : (c t : ℕ) (w : List Waiting) (r : List Released) (s : List Job) → Shape k c w r s → c ≤ t
-      → All (λ a. t ≤ a.release) w → All (λ e. t ≤ e.deadline) r → All (λ q. t ≤ q.deadline) s → Shape k t w r s
+      → AllByRecursion (λ a. t ≤ a.release) w → AllByRecursion (λ e. t ≤ e.deadline) r → AllByRecursion (λ q. t ≤ q.deadline) s → Shape k t w r s
   tick_shape c t w r s i le dw dr ds = record {
     waits = dw;
     by_release = i.by_release;
@@ -94,13 +94,13 @@ module _ (k : Table) (ok : Fit k) where
       }
 
   -- a pushed job is more urgent than all below it, and its D is below what each of them inherits
-  pub above_all : (s : List Job) (e : Released) → goes k e s ≡ true → Rising (λ q. q.deadline) s → All (λ q. e.deadline < q.deadline) s
+  pub above_all : (s : List Job) (e : Released) → goes k e s ≡ true → Rising (λ q. q.deadline) s → AllByRecursion (λ q. e.deadline < q.deadline) s
   above_all [] e g ri = tt
   above_all (q ∷ qs) e g ri =
       let lt : e.deadline < q.deadline = ltb-true _ _ (and_parts _ _ g).0 in
       (lt, all_map (λ p. q.deadline < p.deadline) (λ p. e.deadline < p.deadline) (λ p x. omega arith) qs ri.0)
 
-  inside_all : (s : List Job) (e : Released) → e.relative ≡ relative k e.task → goes k e s ≡ true → Nested k s → All (λ l. relative k e.task < inherited k l) s
+  inside_all : (s : List Job) (e : Released) → e.relative ≡ relative k e.task → goes k e s ≡ true → Nested k s → AllByRecursion (λ l. relative k e.task < inherited k l) s
   inside_all [] e own g ne = tt
   inside_all (q ∷ qs) e own g ne =
       let lt : e.relative < inherited k q = ltb-true e.relative (inherited k q) (and_parts (ltb e.deadline q.deadline) (ltb e.relative (inherited k q)) g).1 in
@@ -126,7 +126,7 @@ module _ (k : Table) (ok : Fit k) where
 
   -- the top job has other sections open
   pub open_shape : (c : ℕ) (w : List Waiting) (r : List Released) (q : Job) (qs : List Job) (os : List Open) → Shape k c w r (q ∷ qs)
-      → All (λ o. (o.section < length k.sections) × ((section_at k o.section).task ≡ q.task)) os → Shape k c w r (with_open q os ∷ qs)
+      → AllByRecursion (λ o. (o.section < length k.sections) × ((section_at k o.section).task ≡ q.task)) os → Shape k c w r (with_open q os ∷ qs)
   open_shape c w r q qs os i ho = record {
     waits = i.waits;
     by_release = i.by_release;

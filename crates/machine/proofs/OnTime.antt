@@ -1,6 +1,6 @@
 -- Where every job and every stay keeps its bound, each job that expires has run its whole time.
 use Rattle.std.proofs.Common.{◌≡◌, ℕ, ◌+◌, ◌-◌, ◌≤◌, true, cond, eqb, List, [], ◌∷◌, None, sym, refl, ap, ◌∙◌, subst, inl, inr, arith}
-use Rattle.std.specs.List.{AllByRecursion as All}
+use Rattle.std.specs.List.{AllByRecursion}
 use Rattle.std.proofs.lemmas.Bool.{cond-true, and_from, eq-eqb, or_left, or_right}
 use Rattle.admission.specs.Verdict.{Admitted}
 use Rattle.machine.specs.declared.call.Ticket.{Ticket}
@@ -43,7 +43,7 @@ record Stepped (k : Table) (S : ℕ → ℕ) (ran : ℕ → ℕ → ℕ) (st : �
   done : (i d : ℕ) → Expires i d (event_of s c o) → cost k i ≤ ran_on ran s.stack (moved (event_of s c o)) i d
 
 -- the entries that a job has open are among those that it has open
-holds_all : (all os : List Open) → ((n : ℕ) → holds n os ≡ true → holds n all ≡ true) → All (λ o. holds o.serial all ≡ true) os
+holds_all : (all os : List Open) → ((n : ℕ) → holds n os ≡ true → holds n all ≡ true) → AllByRecursion (λ o. holds o.serial all ≡ true) os
 holds_all all [] f = tt
 holds_all all (o ∷ os) f = (f o.serial (or_left _ _ (eq-eqb o.serial o.serial refl)), holds_all all os (λ n h. f n (or_right (eqb o.serial n) _ h)))
 

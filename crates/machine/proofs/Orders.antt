@@ -1,6 +1,6 @@
 -- The order of the stack, and who owns what, of every state that a run reaches.
 use Rattle.std.proofs.Common.{◌≡◌, ℕ, zero, suc, ◌<◌, ◌≤◌, true, ltb, List, [], ◌∷◌, map, length, get_or, Some, None, Option, refl, inl, inr, arith}
-use Rattle.std.specs.List.{AllByRecursion as All}
+use Rattle.std.specs.List.{AllByRecursion}
 use Rattle.std.proofs.lemmas.Bool.{and_cases, both_ways, lt-ltb, ltb-false, leb-true, eq-eqb, or_left, or_right, false≢true}
 use Rattle.std.proofs.lemmas.List.{length-map}
 use Rattle.table.specs.declared.records.TaskRecord.{TaskRecord}
@@ -41,13 +41,13 @@ module _ (k : Table) where
     owner : (section_at k place).task ≡ i
     named : names (section_at k place) r ≡ true
 
-  open_names : (r i : ℕ) (os : List Open) → HasOpen k r os → All (Mine k i) os → Names r i
+  open_names : (r i : ℕ) (os : List Open) → HasOpen k r os → AllByRecursion (Mine k i) os → Names r i
   open_names r i [] h a = absurd h
   open_names r i (o ∷ os) (inl e) a = record { place = o.section; within = a.0.0; owner = a.0.1; named = e }
   open_names r i (o ∷ os) (inr h) a = open_names r i os h a.1
 
   open_lowers : (r i d n : ℕ) (os : List Open) → ((x : ℕ) → x < length k.sections → names (section_at k x) r ≡ true → reaches (section_at k x).level n ≡ true)
-      → HasOpen k r os → All (Mine k i) os → lowered k d os ≤ n
+      → HasOpen k r os → AllByRecursion (Mine k i) os → lowered k d os ≤ n
   open_lowers r i d n [] f h a = absurd h
   open_lowers r i d n (o ∷ os) f (inl e) a = lower_reach (lowered k d os) n (section_at k o.section).level (f o.section a.0.0 e)
   open_lowers r i d n (o ∷ os) f (inr h) a = omega (arith, open_lowers r i d n os f h a.1, or_lower_le (lowered k d os) (section_at k o.section).level)
@@ -61,7 +61,7 @@ module _ (k : Table) where
   relatives : List Job → List ℕ
   relatives s = map (λ (q : Job). relative k q.task) s
 
-  relatives_above : (n : ℕ) (s : List Job) → All (λ l. n < inherited k l) s → All (λ m. n < m) (relatives s)
+  relatives_above : (n : ℕ) (s : List Job) → AllByRecursion (λ l. n < inherited k l) s → AllByRecursion (λ m. n < m) (relatives s)
   unfolding relatives
   relatives_above n [] a = tt
   relatives_above n (q ∷ qs) a = (omega (arith, a.0, lowered_le k (relative k q.task) q.opened), relatives_above n qs a.1)
@@ -71,12 +71,12 @@ module _ (k : Table) where
   relatives_rising [] ne = tt
   relatives_rising (q ∷ qs) ne = (relatives_above (relative k q.task) qs ne.0, relatives_rising qs ne.1)
 
-  relatives_among : (s : List Job) → All (λ q. q.task < length k.tasks) s → All (λ n. among n (deadlines k.tasks) ≡ true) (relatives s)
+  relatives_among : (s : List Job) → AllByRecursion (λ q. q.task < length k.tasks) s → AllByRecursion (λ n. among n (deadlines k.tasks) ≡ true) (relatives s)
   unfolding relatives
   relatives_among [] a = tt
   relatives_among (q ∷ qs) a = (deadlines_among k.tasks q.task _ a.0, relatives_among qs a.1)
 
-  pub shallow_from : (s : List Job) → All (λ q. q.task < length k.tasks) s → Nested k s → length s ≤ different (deadlines k.tasks)
+  pub shallow_from : (s : List Job) → AllByRecursion (λ q. q.task < length k.tasks) s → Nested k s → length s ≤ different (deadlines k.tasks)
   unfolding relatives
   shallow_from s kn ne = omega (arith, length-map s (λ (q : Job). relative k q.task), rising_among (deadlines k.tasks) (relatives s) (relatives_rising s ne) (relatives_among s kn))
 
@@ -95,7 +95,7 @@ module _ (k : Table) where
     ok : Fit k
     ok = fit_if_admitted k idle ad
 
-    pub one_owner_from : (c : ℕ) (s : List Job) → All (JobOk k c) s → Nested k s → OneOwner k s
+    pub one_owner_from : (c : ℕ) (s : List Job) → AllByRecursion (JobOk k c) s → Nested k s → OneOwner k s
     one_owner_from c [] js ne = tt
     one_owner_from c (j ∷ ls) js ne = (
       (λ r lt has.

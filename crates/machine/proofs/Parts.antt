@@ -1,6 +1,6 @@
 -- What the parts of a call keep, they keep through the whole call. The parts: selection, expiry, lapse and release, for any statement about lists and stack.
 use Rattle.std.proofs.Common.{◌≡◌, ℕ, ◌≤◌, true, eqb, ltb, List, [], ◌∷◌, refl, ◌∙◌}
-use Rattle.std.specs.List.{AllByRecursion as All}
+use Rattle.std.specs.List.{AllByRecursion}
 use Rattle.std.proofs.lemmas.Bool.{cond_both, eqb-true, le-ltb, and_left}
 use Rattle.queue.specs.declared.waiting.Waiting.{Waiting}
 use Rattle.queue.specs.declared.released.Released.{Released}
@@ -17,7 +17,7 @@ made c w r s n = record { clock = c; waiting = w; released = r; stack = s; count
 -- a statement that selection keeps
 pub record Picks (k : Table) (I : List Waiting → List Released → List Job → Type 0) : Type 0 where
   pub push : (w : List Waiting) (e : Released) (es : List Released) (s : List Job) → I w (e ∷ es) s → goes k e s ≡ true → I w es (begin e ∷ s)
-  pub order : (w : List Waiting) (e : Released) (es : List Released) (s : List Job) → I w (e ∷ es) s → All (λ z. e.deadline ≤ z.deadline) es
+  pub order : (w : List Waiting) (e : Released) (es : List Released) (s : List Job) → I w (e ∷ es) s → AllByRecursion (λ z. e.deadline ≤ z.deadline) es
 
 -- a statement that the parts of an advance to t keep
 pub record Parts (k : Table) (t : ℕ) (I : List Waiting → List Released → List Job → Type 0) : Type 0 where
@@ -39,7 +39,7 @@ pub record Whole (k : Table) (I : List Waiting → List Released → List Job �
 
 module _ (k : Table) (I : List Waiting → List Released → List Job → Type 0) where
   -- after a push, what is released is less urgent
-  next_settled : (e : Released) (es : List Released) (s : List Job) → All (λ z. e.deadline ≤ z.deadline) es → Settled k es (begin e ∷ s)
+  next_settled : (e : Released) (es : List Released) (s : List Job) → AllByRecursion (λ z. e.deadline ≤ z.deadline) es → Settled k es (begin e ∷ s)
   next_settled e [] s a = tt
   next_settled e (z ∷ zs) s a = and_left (ltb z.deadline e.deadline) _ (le-ltb _ _ a.0)
 

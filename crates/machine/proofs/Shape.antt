@@ -1,6 +1,6 @@
 -- The shape of a state: what holds of clock, lists and stack whatever the jobs do with their time.
 use Rattle.std.proofs.Common.{◌≡◌, ℕ, zero, suc, ◌+◌, ◌<◌, ◌≤◌, false, cond, ltb, List, [], ◌∷◌, length, Some, None, Option, arith}
-use Rattle.std.specs.List.{AllByRecursion as All}
+use Rattle.std.specs.List.{AllByRecursion}
 use Rattle.std.proofs.lemmas.Bool.{cond-true, lt-ltb}
 use Rattle.std.proofs.lemmas.Bool.Decides.{nat_tests}
 use Rattle.queue.specs.declared.waiting.Waiting.{Waiting}
@@ -22,26 +22,26 @@ pub record JobOk (k : Table) (c : ℕ) (q : Job) : Type 0 where
   pub base : relative k q.task ≤ q.deadline
   pub begun : q.deadline ≤ c + relative k q.task
   pub live : c ≤ q.deadline
-  pub held : All (λ o. (o.section < length k.sections) × ((section_at k o.section).task ≡ q.task)) q.opened
+  pub held : AllByRecursion (λ o. (o.section < length k.sections) × ((section_at k o.section).task ≡ q.task)) q.opened
 
 -- below each job, every inherited deadline exceeds its D
 abbrev pub Nested : Table → List Job → Type 0
 Nested k [] = Unit {0}
-Nested k (j ∷ ls) = All (λ l. relative k j.task < inherited k l) ls × Nested k ls
+Nested k (j ∷ ls) = AllByRecursion (λ l. relative k j.task < inherited k l) ls × Nested k ls
 
 -- a released entry that is more urgent than a job has a smaller D
 abbrev pub Inward : Table → List Released → Job → Type 0
-Inward k r q = All (λ e. e.deadline < q.deadline → relative k e.task < relative k q.task) r
+Inward k r q = AllByRecursion (λ e. e.deadline < q.deadline → relative k e.task < relative k q.task) r
 
 pub record Shape (k : Table) (c : ℕ) (w : List Waiting) (r : List Released) (s : List Job) : Type 0 where
-  pub waits : All (λ a. c ≤ a.release) w
+  pub waits : AllByRecursion (λ a. c ≤ a.release) w
   pub by_release : Sorted (λ a. a.release) w
-  pub readies : All (EntryOk k c) r
+  pub readies : AllByRecursion (EntryOk k c) r
   pub by_deadline : Sorted (λ e. e.deadline) r
-  pub jobs : All (JobOk k c) s
+  pub jobs : AllByRecursion (JobOk k c) s
   pub rising : Rising (λ q. q.deadline) s
   pub nested : Nested k s
-  pub inward : All (Inward k r) s
+  pub inward : AllByRecursion (Inward k r) s
   pub once : (g : ℕ → ℕ) → tot (λ a. g a.task) w + tot (λ e. g e.task) r + tot (λ q. g q.task) s ≡ tot (λ (a : Waiting). g a.task) (first_releases 0 (length k.tasks))
 
 -- between calls: the first released task may not be pushed
@@ -49,7 +49,7 @@ abbrev pub Settled : Table → List Released → List Job → Type 0
 Settled k [] s = Unit {0}
 Settled k (e ∷ es) s = goes k e s ≡ false
 
-firsts_below : (m n i : ℕ) → i + n ≤ m → All (λ (a : Waiting). a.task < m) (first_releases i n)
+firsts_below : (m n i : ℕ) → i + n ≤ m → AllByRecursion (λ (a : Waiting). a.task < m) (first_releases i n)
 firsts_below m zero i h = tt
 firsts_below m (suc n) i h = (omega arith, firsts_below m n (i + 1) (omega arith))
 
@@ -76,7 +76,7 @@ module _ (k : Table) where
   none_past i e = grind (arith, nat_tests)
 
   pub known : (c : ℕ) (w : List Waiting) (r : List Released) (s : List Job) → Shape k c w r s
-      → All (λ a. a.task < length k.tasks) w × All (λ e. e.task < length k.tasks) r × All (λ q. q.task < length k.tasks) s
+      → AllByRecursion (λ a. a.task < length k.tasks) w × AllByRecursion (λ e. e.task < length k.tasks) r × AllByRecursion (λ q. q.task < length k.tasks) s
   known c w r s i =
       let z : tot (λ (a : Waiting). past a.task) (first_releases 0 (length k.tasks)) ≡ 0 =
       tot_none _ _ (all_map (λ a. a.task < length k.tasks) _ (λ a h. past_none a.task h) _ (firsts_below (length k.tasks) (length k.tasks) 0 (omega arith))) in

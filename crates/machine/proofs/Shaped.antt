@@ -1,6 +1,6 @@
 -- Every call keeps the shape and leaves the state settled, so every state that a run reaches has both.
 use Rattle.std.proofs.Common.{◌≡◌, ℕ, zero, suc, ◌+◌, ◌≤◌, ltb, List, [], ◌∷◌, length, None, sym, subst, inl, inr, arith}
-use Rattle.std.specs.List.{AllByRecursion as All}
+use Rattle.std.specs.List.{AllByRecursion}
 use Rattle.std.proofs.lemmas.Bool.{and_cases, and_left, and_right, le-ltb, ltb-false}
 use Rattle.queue.specs.declared.waiting.Waiting.{Waiting}
 use Rattle.queue.specs.declared.released.Released.{Released}
@@ -91,7 +91,7 @@ module _ (k : Table) (ok : Fit k) where
   run_shaped [] s h = h
   run_shaped (c ∷ cs) s h = run_shaped cs (step k c s).state (step_shaped c s h)
 
-  firsts_at : (n i : ℕ) → All (λ (a : Waiting). 0 ≤ a.release) (first_releases i n)
+  firsts_at : (n i : ℕ) → AllByRecursion (λ (a : Waiting). 0 ≤ a.release) (first_releases i n)
   firsts_at zero i = tt
   firsts_at (suc n) i = (omega arith, firsts_at n (i + 1))
 

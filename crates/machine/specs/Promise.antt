@@ -1,6 +1,6 @@
 -- What holds of every run of an admitted table, at the start and after each call.
 use Rattle.std.specs.Prelude.{◌≡◌, ℕ, ◌+◌, ◌-◌, ◌<◌, ◌≤◌, Bool, true, false, cond, ◌||◌, ◌⊎◌, List, [], ◌∷◌, length, ◌==◌}
-use Rattle.std.specs.List.{AllByRecursion as All}
+use Rattle.std.specs.List.{AllByRecursion}
 use Rattle.table.specs.declared.records.TaskRecord.{TaskRecord}
 use Rattle.table.specs.Limits.{resources}
 use Rattle.table.specs.Level.{names}
@@ -27,7 +27,7 @@ HasOpen k r (o ∷ os) = (names (section_at k o.section) r ≡ true) ⊎ HasOpen
 
 -- none of these jobs has the resource open
 abbrev pub Free : Table → ℕ → List Job → Type 0
-Free k r js = All (λ j. HasOpen k r j.opened → ⊥) js
+Free k r js = AllByRecursion (λ j. HasOpen k r j.opened → ⊥) js
 
 -- no resource is open in two tasks
 abbrev pub OneOwner : Table → List Job → Type 0
@@ -52,7 +52,7 @@ abbrev pub Held : Table → List Released → List Job → Type 0
 Held k [] js = Unit {0}
 Held k (e ∷ es) [] = Unit {0}
 Held k (e ∷ es) (j ∷ js) =
-    e.deadline < j.deadline → (inherited k j ≤ relative k e.task) × All (λ l. relative k e.task < inherited k l) js
+    e.deadline < j.deadline → (inherited k j ≤ relative k e.task) × AllByRecursion (λ l. relative k e.task < inherited k l) js
 
 -- how often a task stands in each of the three places
 abbrev pub waits : ℕ → List Waiting → ℕ

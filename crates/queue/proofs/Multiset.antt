@@ -1,6 +1,6 @@
 -- Sorting does not see in which order its entries stand. Assumes nothing.
 use Rattle.std.proofs.Common.{◌≡◌, ℕ, zero, suc, ◌<◌, ◌≤◌, Bool, true, false, cond, ◌≢◌, List, [], ◌∷◌, ◌++◌, length, get_or, take, set, sym, refl, ap, ◌∙◌, ⊎_elim, arith}
-use Rattle.std.specs.List.{AllByRecursion as All}
+use Rattle.std.specs.List.{AllByRecursion}
 use Rattle.std.proofs.lemmas.List.{get_or-take, set-get_or, length-take-le}
 use Rattle.std.proofs.lemmas.Bool.{cases_Bool, cond-true, cond-false}
 use Rattle.queue.specs.Order.{Total, insert_sorted, sorted}
@@ -20,7 +20,7 @@ module _ {E : Type 0} (before : E → E → Bool) where
   ins_there : (e x : E) (xs : List E) → before e x ≡ false → insert_sorted before e (x ∷ xs) ≡ x ∷ insert_sorted before e xs
   ins_there e x xs h = cond-false (before e x) _ _ h
 
-  pub all_sorted : (P : E → Type 0) (xs : List E) → All P xs → All P (sorted before xs)
+  pub all_sorted : (P : E → Type 0) (xs : List E) → AllByRecursion P xs → AllByRecursion P (sorted before xs)
   all_sorted P [] all = tt
   all_sorted P (x ∷ xs) all = all_insert before P x (sorted before xs) all.0 (all_sorted P xs all.1)
 
@@ -93,7 +93,7 @@ module _ {E : Type 0} (before : E → E → Bool) where
         ∙ sort_swap t i j y x (omega arith) (omega arith) ne ∙ ap (λ l. sorted before (set l j y)) kx ∙ ap (sorted before) ky
 
     -- what nothing comes before stands first
-    pub ins_first : (x : E) (ys : List E) → All (λ y. before y x ≡ false) ys → insert_sorted before x ys ≡ x ∷ ys
+    pub ins_first : (x : E) (ys : List E) → AllByRecursion (λ y. before y x ≡ false) ys → insert_sorted before x ys ≡ x ∷ ys
     ins_first x [] all = refl
     ins_first x (y ∷ ys) all =
         ⊎_elim
@@ -103,5 +103,5 @@ module _ {E : Type 0} (before : E → E → Bool) where
         ins_there x y ys p ∙ ap (λ l. y ∷ l) (ins_first x ys all.1) ∙ ap (λ z. y ∷ z ∷ ys) e ∙ ap (λ z. z ∷ y ∷ ys) (sym e))
         (cases_Bool (before x y))
 
-    pub sorted_first : (x : E) (xs : List E) → All (λ y. before y x ≡ false) xs → sorted before (x ∷ xs) ≡ x ∷ sorted before xs
+    pub sorted_first : (x : E) (xs : List E) → AllByRecursion (λ y. before y x ≡ false) xs → sorted before (x ∷ xs) ≡ x ∷ sorted before xs
     sorted_first x xs all = ins_first x (sorted before xs) (all_sorted (λ y. before y x ≡ false) xs all)

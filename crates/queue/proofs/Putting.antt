@@ -1,13 +1,13 @@
 -- Sorted insertion into a list of lent entries, entry by entry. Assumes nothing.
 use Rattle.std.proofs.Common.{◌≡◌, ℕ, zero, suc, ◌+◌, ◌-◌, ◌<◌, ◌≤◌, Bool, true, false, List, [], ◌∷◌, ◌++◌, length, get_or, take, drop, set, sym, refl, ap, ◌∙◌, subst, ⊎_elim, arith, take-add}
-use Rattle.std.specs.List.{AllByRecursion as All}
+use Rattle.std.specs.List.{AllByRecursion}
 use Rattle.std.proofs.lemmas.List.{get_or-take, take-set-le, drop-set, take-take, take-set, drop_more, drop_all, length-set, length-take, take-append-drop}
 use Rattle.std.proofs.ByRecursion.{All-get_or}
 use Rattle.std.proofs.lemmas.Bool.{cases_Bool, both_ways, cond-true, cond-false}
 use Rattle.queue.specs.Order.{Total, insert_sorted, Rising}
 
 module _ {E : Type 0} (before : E → E → Bool) where
-  pub insert_split : (e : E) (p q : List E) → All (λ y. before e y ≡ false) p → All (λ y. before e y ≡ true) q → insert_sorted before e (p ++ q) ≡ p ++ e ∷ q
+  pub insert_split : (e : E) (p q : List E) → AllByRecursion (λ y. before e y ≡ false) p → AllByRecursion (λ y. before e y ≡ true) q → insert_sorted before e (p ++ q) ≡ p ++ e ∷ q
   insert_split e [] [] low high = refl
   insert_split e [] (y ∷ q) low high = cond-true (before e y) _ _ high.0
   insert_split e (x ∷ p) q low high = cond-false (before e x) _ _ low.0 ∙ ap (λ l. x ∷ l) (insert_split e p q low.1 high)
@@ -32,7 +32,7 @@ module _ {E : Type 0} (before : E → E → Bool) where
         (λ (k : before y x ≡ false). k)
         (cases_Bool (before y x))
 
-    pub low_part : (e : E) (xs : List E) (k : ℕ) (d : E) → Rising before xs → k < length xs → before e (get_or xs k d) ≡ false → All (λ y. before e y ≡ false) (take (suc k) xs)
+    pub low_part : (e : E) (xs : List E) (k : ℕ) (d : E) → Rising before xs → k < length xs → before e (get_or xs k d) ≡ false → AllByRecursion (λ y. before e y ≡ false) (take (suc k) xs)
     low_part e [] k d s lt h = absurd (omega arith)
     low_part e (x ∷ xs) zero d s lt h = (h, tt)
     low_part e (x ∷ xs) (suc k) d s lt h =
@@ -79,29 +79,29 @@ module _ {E : Type 0} (s s0 : List E) (len : ℕ) (room : len < length s0) where
   moved_read i k x lt m read =
       read ∙ sym (get_or-take i s k x lt) ∙ ap (λ l. get_or l k x) m.2 ∙ get_or-take i s0 k x lt ∙ sym (get_or-take len s0 k x (omega arith))
 
-  pub all_back : (P : E → Type 0) (i : ℕ) (x : E) → 0 < i → Moved s s0 len i → x ≡ get_or s (i - 1) x → P x → All P (drop i (take len s0)) → All P (drop (i - 1) (take len s0))
+  pub all_back : (P : E → Type 0) (i : ℕ) (x : E) → 0 < i → Moved s s0 len i → x ≡ get_or s (i - 1) x → P x → AllByRecursion P (drop i (take len s0)) → AllByRecursion P (drop (i - 1) (take len s0))
   all_back P i x pos m read px rest =
       let e : i - 1 + 1 ≡ i = omega arith in
       let lt : i - 1 < length (take len s0) = simp length-take (omega arith) in
       let cons : drop (i - 1) (take len s0) ≡ x ∷ drop i (take len s0) =
       drop_more (take len s0) (i - 1) x lt ∙ ap (λ y. y ∷ drop (i - 1 + 1) (take len s0)) (sym (moved_read i (i - 1) x (omega arith) m read)) ∙ ap (λ n. x ∷ drop n (take len s0)) e in
-      subst (All P) (sym cons) (px, rest)
+      subst (AllByRecursion P) (sym cons) (px, rest)
 
-pub all_none : {E : Type 0} (P : E → Type 0) (len : ℕ) (s : List E) → All P (drop len (take len s))
-all_none P len s = subst (All P) (sym (drop_all len (take len s) (simp length-take (omega arith)))) tt
+pub all_none : {E : Type 0} (P : E → Type 0) (len : ℕ) (s : List E) → AllByRecursion P (drop len (take len s))
+all_none P len s = subst (AllByRecursion P) (sym (drop_all len (take len s) (simp length-take (omega arith)))) tt
 
-module _ {E : Type 0} (before : E → E → Bool) (s s0 : List E) (len : ℕ) (room : len < length s0) (i : ℕ) (e : E) (m : Moved s s0 len i) (high : All (λ y. before e y ≡ true) (drop i (take len s0))) where
-  pub put_end : All (λ y. before e y ≡ false) (take i (take len s0)) → take (len + 1) (set s i e) ≡ insert_sorted before e (take len s0)
+module _ {E : Type 0} (before : E → E → Bool) (s s0 : List E) (len : ℕ) (room : len < length s0) (i : ℕ) (e : E) (m : Moved s s0 len i) (high : AllByRecursion (λ y. before e y ≡ true) (drop i (take len s0))) where
+  pub put_end : AllByRecursion (λ y. before e y ≡ false) (take i (take len s0)) → take (len + 1) (set s i e) ≡ insert_sorted before e (take len s0)
   put_end low =
       moved_end s s0 len room i e m ∙ sym (insert_split before e (take i (take len s0)) (drop i (take len s0)) low high)
       ∙ ap (insert_sorted before e) (take-append-drop i (take len s0))
 
   pub put_first : i ≤ 0 → take (len + 1) (set s i e) ≡ insert_sorted before e (take len s0)
-  put_first z = put_end (let n : i ≡ 0 = omega arith in subst (λ (k : ℕ). All (λ y. before e y ≡ false) (take k (take len s0))) (sym n) tt)
+  put_first z = put_end (let n : i ≡ 0 = omega arith in subst (λ (k : ℕ). AllByRecursion (λ y. before e y ≡ false) (take k (take len s0))) (sym n) tt)
 
   pub put_after : (o : Total before) (x : E) → Rising before (take len s0) → 0 < i → x ≡ get_or s (i - 1) x → before e x ≡ false → take (len + 1) (set s i e) ≡ insert_sorted before e (take len s0)
   put_after o x rising pos read no' =
       let e1 : suc (i - 1) ≡ i = omega arith in
       let lt : i - 1 < length (take len s0) = simp length-take (omega arith) in
-      put_end (subst (λ (k : ℕ). All (λ y. before e y ≡ false) (take k (take len s0))) e1
+      put_end (subst (λ (k : ℕ). AllByRecursion (λ y. before e y ≡ false) (take k (take len s0))) e1
       (low_part before o e (take len s0) (i - 1) x rising lt (ap (before e) (sym (moved_read s s0 len room i (i - 1) x (omega arith) m read)) ∙ no')))

@@ -1,6 +1,6 @@
 -- What is true of every run from a sound list. Assumes nothing.
 use Rattle.std.proofs.Common.{◌≡◌, ℕ, zero, suc, ◌+◌, ◌<◌, ◌≤◌, Bool, true, cond, List, [], ◌∷◌, ◌++◌, length, get_or, take, drop, set, Some, None, Option, sym, refl, ap, ◌∙◌, subst, arith}
-use Rattle.std.specs.List.{AllByRecursion as All}
+use Rattle.std.specs.List.{AllByRecursion}
 use Rattle.std.proofs.lemmas.List.{append_assoc, take_more_set, drop_more, drop_all, take_all, append-nil}
 use Rattle.std.proofs.ByRecursion.{All-take}
 use Rattle.std.proofs.lemmas.Bool.{cond_both, false≢true}
@@ -60,7 +60,7 @@ module _ {E : Type 0} (o : Order E) (capacity : ℕ) where
   none_left zero = refl
   none_left (suc k) = refl
 
-  takes_out : (cs : List (Call E)) (xs : List E) (n : ℕ) → All (λ c. is_take c ≡ true) (take n cs)
+  takes_out : (cs : List (Call E)) (xs : List E) (n : ℕ) → AllByRecursion (λ c. is_take c ≡ true) (take n cs)
       → came_out (take n (answers_to o capacity cs xs)) ≡ take (length (take n cs)) xs
   takes_out cs xs zero all = refl
   takes_out [] xs (suc n) all = refl

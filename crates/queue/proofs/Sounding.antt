@@ -1,6 +1,6 @@
 -- What an insert and a take leave of a sound list, and what follows from a refusal or none. Assumes nothing.
 use Rattle.std.proofs.Common.{◌≡◌, ℕ, zero, suc, ◌+◌, ◌<◌, ◌≤◌, Bool, true, false, cond, ◌||◌, eqb, leb, List, [], ◌∷◌, length, get_or, take, drop, Some, None, sym, refl, ap, ◌∙◌, ⊎_elim, arith, length-take}
-use Rattle.std.specs.List.{AllByRecursion as All}
+use Rattle.std.specs.List.{AllByRecursion}
 use Rattle.std.proofs.ByRecursion.{All-weaker}
 use Rattle.std.proofs.lemmas.Bool.{cases_Bool, cond-true, cond-false, cond_both, or_parts, or_from, ne_eqb, eqb-false, leb-false}
 use Rattle.queue.specs.declared.refusal.Refusal.TheVariants.{Present, Full}
@@ -19,9 +19,9 @@ rest_is [] = refl
 rest_is (x ∷ xs) = refl
 
 module _ {E : Type 0} (before : E → E → Bool) where
-  pub all_insert : (P : E → Type 0) (e : E) (xs : List E) → P e → All P xs → All P (insert_sorted before e xs)
+  pub all_insert : (P : E → Type 0) (e : E) (xs : List E) → P e → AllByRecursion P xs → AllByRecursion P (insert_sorted before e xs)
   all_insert P e [] pe all = (pe, tt)
-  all_insert P e (x ∷ xs) pe all = cond_both (before e x) _ _ (All P) (λ _. (pe, all)) (λ _. (all.0, all_insert P e xs pe all.1))
+  all_insert P e (x ∷ xs) pe all = cond_both (before e x) _ _ (AllByRecursion P) (λ _. (pe, all)) (λ _. (all.0, all_insert P e xs pe all.1))
 
   pub length-insert : (e : E) (xs : List E) → length (insert_sorted before e xs) ≡ length xs + 1
   length-insert e [] = refl

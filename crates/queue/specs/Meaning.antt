@@ -1,6 +1,6 @@
 -- What a queue means: a capacity of at most 32, and a list of entries in rising order, no two of one task.
 use Rattle.std.specs.Prelude.{◌≡◌, ℕ, ◌<◌, ◌≤◌, Bool, false, ◌||◌, List, [], ◌∷◌, length, Some, None, Option, ◌==◌}
-use Rattle.std.specs.List.{AllByRecursion as All}
+use Rattle.std.specs.List.{AllByRecursion}
 use Rattle.queue.specs.Order.{Order, Rising}
 
 -- the number of tasks, and the most entries that a queue holds
@@ -33,4 +33,4 @@ pub record Sound {E : Type 0} (o : Order E) (capacity : ℕ) (xs : List E) : Typ
   pub fits : length xs ≤ capacity
   pub rising : Rising o.before xs
   pub distinct : Distinct o.task_of xs
-  pub numbered : All (λ x. o.task_of x < limit) xs
+  pub numbered : AllByRecursion (λ x. o.task_of x < limit) xs

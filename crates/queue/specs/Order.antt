@@ -1,6 +1,6 @@
 -- An order of entries: which of two comes before the other, and of which task an entry is. Sorted insertion puts an entry where the order says.
 use Rattle.std.specs.Prelude.{◌≡◌, ℕ, Bool, true, false, cond, List, [], ◌∷◌}
-use Rattle.std.specs.List.{AllByRecursion as All}
+use Rattle.std.specs.List.{AllByRecursion}
 
 -- what a queue knows of its entries
 pub record Order (E : Type 0) : Type 0 where
@@ -26,4 +26,4 @@ sorted before (x ∷ xs) = insert_sorted before x (sorted before xs)
 -- each entry comes before all that stand after it
 abbrev pub Rising : {E : Type 0} → (E → E → Bool) → List E → Type 0
 Rising before [] = Unit {0}
-Rising before (x ∷ xs) = All (λ y. before x y ≡ true) xs × Rising before xs
+Rising before (x ∷ xs) = AllByRecursion (λ y. before x y ≡ true) xs × Rising before xs

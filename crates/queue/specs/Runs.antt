@@ -1,6 +1,6 @@
 -- Whole runs of a queue: lists of inserts and takes, what they answer and what they leave, and what is true of every such run.
 use Rattle.std.specs.Prelude.{◌≡◌, ℕ, ◌+◌, Bool, true, false, cond, ◌&&◌, List, [], ◌∷◌, ◌++◌, length, take, drop, Some, None, Ok, Err, ◌==◌}
-use Rattle.std.specs.List.{AllByRecursion as All}
+use Rattle.std.specs.List.{AllByRecursion}
 use Rattle.queue.specs.Order.{Order, Rising}
 use Rattle.queue.specs.Meaning.{first_of, rest_of}
 use Rattle.queue.specs.Answer.{answered, inserted}
@@ -71,7 +71,7 @@ is_take Take = true
 -- what comes out by takes with no insert between them is in rising order, wherever they stand in the run
 abbrev pub TakesRise : {E : Type 0} → (E → E → Bool) → List (Call E) → List (Answer E) → Type 0
 TakesRise before calls answers =
-    (i n : ℕ) → All (λ c. is_take c ≡ true) (take n (drop i calls)) → Rising before (came_out (take n (drop i answers)))
+    (i n : ℕ) → AllByRecursion (λ c. is_take c ≡ true) (take n (drop i calls)) → Rising before (came_out (take n (drop i answers)))
 
 -- the law of two queues that start empty with one capacity and are given the same calls
 pub record Alike {E : Type 0} (o : Order E) (capacity : ℕ) (calls : List (Call E)) (answers answers' : List (Answer E)) (xs xs' : List E) : Type 0 where

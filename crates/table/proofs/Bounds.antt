@@ -1,7 +1,7 @@
 -- Faults lie in their line.
 use Rattle.std.proofs.Common.{ℕ, suc, ◌+◌, ◌-◌, ◌<◌, ◌≤◌, Bool, true, false, cond, ◌&&◌, eqb, ltb, leb, List, [], ◌∷◌, length, drop, Some, None, Ok, Err, Option, Result, unwrap_or, arith}
 use lib.Bits.{bit_and, bit_or}
-use Rattle.std.specs.List.{AllByRecursion as All}
+use Rattle.std.specs.List.{AllByRecursion}
 use Rattle.std.proofs.lemmas.List.{length-drop}
 use Rattle.std.proofs.lemmas.Bool.{cond_both}
 use Rattle.table.specs.declared.refusal.Rule.{Rule}
@@ -43,17 +43,17 @@ mark_begun n p b h =
     cond_both (is_small b) _ _ (BegunOr n) (λ _. h)
     (λ _. cond_both (is_capital b) _ _ (BegunOr n) (λ _. h) (λ _. cond_both (eqb b 125) _ _ (BegunOr n) (λ _. tt) (λ _. tt)))
 
-joined_begun : (n : ℕ) (o : Option Item) (is : List Item) → BegunOr n o → All (Begun n) is → All (Begun n) (joined o is)
+joined_begun : (n : ℕ) (o : Option Item) (is : List Item) → BegunOr n o → AllByRecursion (Begun n) is → AllByRecursion (Begun n) (joined o is)
 joined_begun n None is h k = k
 joined_begun n (Some i) is h k = (h, k)
 
-items_begun : (n : ℕ) (w : Bool) (p : ℕ) (t : List ℕ) → p + length t ≤ n → All (Begun n) (items w p t)
+items_begun : (n : ℕ) (w : Bool) (p : ℕ) (t : List ℕ) → p + length t ≤ n → AllByRecursion (Begun n) (items w p t)
 items_begun n w p [] h = tt
 items_begun n w p (b ∷ t) h =
     let in-number = items_begun n true (p + 1) t (omega arith) in
     let after = items_begun n false (p + 1) t (omega arith) in
-    cond_both (is_digit b) _ _ (All (Begun n))
-    (λ _. cond_both w _ _ (All (Begun n)) (λ _. in-number) (λ _. (omega arith, in-number)))
+    cond_both (is_digit b) _ _ (AllByRecursion (Begun n))
+    (λ _. cond_both w _ _ (AllByRecursion (Begun n)) (λ _. in-number) (λ _. (omega arith, in-number)))
     (λ _. joined_begun n (mark_at p b) (items false (p + 1) t) (mark_begun n p b (omega arith)) after)
 
 unreadable_below : (n : ℕ) (m : Numeral) → m.place < n → Below n (unreadable m)
@@ -68,11 +68,11 @@ item_below n (Open m) h = unreadable_below n m h
 item_below n (Named l) h = tt
 item_below n Close h = tt
 
-number_below : (n : ℕ) (is : List Item) → All (Begun n) is → Below n (number_fault is)
+number_below : (n : ℕ) (is : List Item) → AllByRecursion (Begun n) is → Below n (number_fault is)
 number_below n [] h = tt
 number_below n (i ∷ is) h = or_below n (item_fault i) (number_fault is) (item_below n i h.0) (number_below n is h.1)
 
-section_below : (n room before depth : ℕ) (is : List Item) → All (Begun n) is → Below n (section_fault room before depth is)
+section_below : (n room before depth : ℕ) (is : List Item) → AllByRecursion (Begun n) is → Below n (section_fault room before depth is)
 section_below n room before depth [] h = tt
 section_below n room before depth (Open m ∷ is) h =
     let later = section_below n room (before + 1) (depth + 1) is h.1 in
@@ -80,7 +80,7 @@ section_below n room before depth (Open m ∷ is) h =
 section_below n room before depth (Named l ∷ is) h = section_below n room before depth is h.1
 section_below n room before depth (Close ∷ is) h = section_below n room before (depth - 1) is h.1
 
-repeat_below : (n : ℕ) (seen : List ℕ) (is : List Item) → All (Begun n) is → Below n (repeat_fault seen is)
+repeat_below : (n : ℕ) (seen : List ℕ) (is : List Item) → AllByRecursion (Begun n) is → Below n (repeat_fault seen is)
 repeat_below n seen [] h = tt
 repeat_below n seen (Open m ∷ is) h = repeat_below n (named seen ∷ seen) is h.1
 repeat_below n seen (Named l ∷ is) h =
@@ -88,7 +88,7 @@ repeat_below n seen (Named l ∷ is) h =
     cond_both (eqb (bit_and (named seen) l.bit) 0) _ _ (Below n) (λ _. later) (λ _. h.0)
 repeat_below n seen (Close ∷ is) h = repeat_below n (outer seen) is h.1
 
-length-below : (n cost : ℕ) (lengths : List ℕ) (is : List Item) → All (Begun n) is → Below n (length_fault cost lengths is)
+length-below : (n cost : ℕ) (lengths : List ℕ) (is : List Item) → AllByRecursion (Begun n) is → Below n (length_fault cost lengths is)
 length-below n cost lengths [] h = tt
 length-below n cost lengths (Open m ∷ is) h =
     let later = length-below n cost (ticks_of m ∷ lengths) is h.1 in
@@ -131,7 +131,7 @@ line_below room before line =
     let p₂ : behind (period_at line) line ≤ length line + 7 = behind_bound (length line + 7) (period_at line) line (omega arith) (omega arith) in
     let p₃ : body_at line ≤ length line + 10 = behind_bound (length line + 10) (cost_at line) line (omega arith) (omega arith) in
     let cut = length-drop (body_at line) line in
-    let begun : All (Begun n) is = items_begun n false (body_at line) (drop (body_at line) line) (omega arith) in
+    let begun : AllByRecursion (Begun n) is = items_begun n false (body_at line) (drop (body_at line) line) (omega arith) in
     unless_below n Form (form_fault line) _ (form_below n _ 0 line (omega arith))
     (unless_below n Number (head_fault (head_of line)) _
     (or_below n _ _ (unreadable_below n (numeral_at (deadline_at line) line) (omega arith))

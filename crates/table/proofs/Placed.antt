@@ -1,6 +1,6 @@
 -- A walk over the sections of a line: what is found first, in the order of reading, stands at the least place.
 use Rattle.std.proofs.Common.{◌≡◌, ℕ, ◌+◌, ◌<◌, ◌≤◌, ◌⊎◌, List, [], ◌∷◌, length, None, Option, sym, subst, ⊎_elim, arith}
-use Rattle.std.specs.List.{AllByRecursion as All}
+use Rattle.std.specs.List.{AllByRecursion}
 use Rattle.std.proofs.ByRecursion.{All-weaker}
 use Rattle.table.specs.declared.line.Item.{Item}
 use Rattle.table.specs.declared.line.Item.TheVariants.{Open, Close}
@@ -13,7 +13,7 @@ use Rattle.table.proofs.Exact.{Exact, exact_both}
 
 -- each of these sections stands behind a place
 abbrev pub Beyond : ℕ → List Spot → Type 0
-Beyond low ss = All (λ s. low < s.place) ss
+Beyond low ss = AllByRecursion (λ s. low < s.place) ss
 
 beyond_less : (low high : ℕ) (ss : List Spot) → low ≤ high → Beyond high ss → Beyond low ss
 beyond_less low high ss h k = All-weaker (λ s. high < s.place) (λ s. low < s.place) (λ s x. omega arith) ss k

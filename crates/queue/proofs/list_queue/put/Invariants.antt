@@ -1,10 +1,10 @@
 use Rattle.std.proofs.Common.{◌≡◌, true, take, drop}
-use Rattle.std.specs.List.{AllByRecursion as All}
+use Rattle.std.specs.List.{AllByRecursion}
 use Rattle.queue.proofs.Putting.{Moved}
 use Rattle.queue.proofs.list_queue.put.Given as goal
 
 abbrev pub invariant-loop-i : goal.invariant-loop-i
-invariant-loop-i g l = Moved l.entries l.initial.entries l.len l.i × All (λ y. g.E.QueueEntry.order.before l.e y ≡ true) (drop l.i (take l.len l.initial.entries))
+invariant-loop-i g l = Moved l.entries l.initial.entries l.len l.i × AllByRecursion (λ y. g.E.QueueEntry.order.before l.e y ≡ true) (drop l.i (take l.len l.initial.entries))
 
 abbrev pub decreases-loop-i : goal.decreases-loop-i
 decreases-loop-i g l = l.i
