@@ -9,8 +9,8 @@ ghost use Rattle.scheduler.specs.Fitted.{Fitted};
 
 use admission::admit::admit;
 use admission::pass::Pass;
-use machine::call::Refusal;
 use queue::{HeapQueue, ListQueue, Queue, Released, Waiting};
+use scheduler::answer::Refusal;
 use scheduler::grant::LeaveRefusal;
 use scheduler::run_core::Core;
 use std::io;

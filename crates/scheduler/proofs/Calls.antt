@@ -1,6 +1,6 @@
 -- What the calls do over the core's own fields is the machine's step.
-use Rattle.std.proofs.Common.{◌≡◌, ℕ, ◌+◌, ◌-◌, ◌<◌, ◌≤◌, Bool, true, false, cond, ◌&&◌, eqb, ltb, ◌≢◌, List, [], ◌∷◌, map, length, get_or, Some, None, Option, sym, refl, ap, ◌∙◌, subst, inl, inr, arith}
-use Rattle.std.proofs.lemmas.Bool.{cond-true, cond-false, cond_both, cases_eq, cases_lt, eq-eqb, ne_eqb, lt-ltb, le-ltb, ltb-true, ltb-false, eqb-true, eqb-false, false≢true, and_parts, and_from}
+use Rattle.std.proofs.Common.{◌≡◌, ℕ, ◌+◌, ◌-◌, ◌<◌, ◌≤◌, Bool, true, false, cond, ◌&&◌, eqb, ltb, List, [], ◌∷◌, map, length, get_or, Some, None, Option, sym, refl, ap, ◌∙◌, inl, inr, arith}
+use Rattle.std.proofs.lemmas.Bool.{cond-true, cond-false, cases_eq, cases_lt, eq-eqb, ne_eqb, lt-ltb, le-ltb, ltb-true, ltb-false, eqb-true, eqb-false, false≢true, and_parts, and_from}
 use Rattle.std.proofs.lemmas.List.{length-map}
 use Rattle.table.specs.Limits.{deepest}
 use Rattle.table.specs.declared.records.SectionRecord.{SectionRecord}
@@ -11,31 +11,29 @@ use Rattle.queue.specs.Entries.{waiting_before}
 use Rattle.admission.proofs.Nesting.{Inside, nesting_within}
 use Rattle.admission.proofs.Nesting.{innermost_of as innermostNumber}
 use Rattle.machine.specs.declared.call.Call.{Call}
-use Rattle.machine.specs.declared.call.Call.TheVariants.{Advance, Enter, Leave, Finish}
-use Rattle.machine.specs.declared.call.Answer.{Answer}
-use Rattle.machine.specs.declared.call.Answer.TheVariants.{Granted, Running, Refused}
+use Rattle.machine.specs.declared.call.Call.TheVariants.{Advance, Enter, Finish}
+use Rattle.machine.specs.declared.call.Answer.TheVariants.{Granted, Running}
 use Rattle.machine.specs.declared.call.Refusal.{Refusal}
 use Rattle.machine.specs.declared.call.Refusal.TheVariants.{NothingRuns, NotEnterable, TooManyEntries, StillOpen}
 use Rattle.machine.specs.State.{Table, Open, Job, State, section_at, running}
-use Rattle.machine.specs.Step.{Outcome, refused, step, most_entries, last_instant, beyond, not_advanced, top_expired, lapsed, released_at, clock_at, advanced, advanced_answer, same_place, innermost, enterable, entered, finished, none_open, selected}
+use Rattle.machine.specs.Step.{Outcome, refused, step, most_entries, not_advanced, top_expired, lapsed, released_at, clock_at, advanced, advanced_answer, same_place, innermost, enterable, entered, finished, none_open, selected}
+use Rattle.scheduler.specs.Answered.{told}
 use Rattle.scheduler.specs.declared.records.Records.{Records}
-use Rattle.scheduler.specs.declared.stack.StackRecord.{StackRecord}
 use Rattle.scheduler.specs.declared.stack.Inner.{Inner}
-use Rattle.scheduler.specs.View.{table_of, open_of, opens_of, job_of, jobs_of, tally_of, state_of}
+use Rattle.scheduler.specs.View.{table_of, opens_of, job_of, jobs_of, state_of}
 use Rattle.scheduler.specs.Steady.{Copied, job_at, chained}
-use Rattle.scheduler.specs.Moves.{top_of, no_open, no_section, last_open, innermost_of, enterable_at, refused_at, enter_refusal, finish_refusal, again_of, with_open}
+use Rattle.scheduler.specs.Moves.{top_of, no_open, no_section, innermost_of, enterable_at, enter_refusal, finish_refusal, again_of, with_open}
 use Rattle.scheduler.specs.Moves.{entered_by, finished_by}
 use Rattle.scheduler.specs.Calls.{answer_of, state_after}
-use Rattle.scheduler.proofs.Jobs.{jobs_none, jobs_top, jobs_set, opens_none, opens_top, opens_push, opens_length}
+use Rattle.scheduler.proofs.Jobs.{jobs_none, jobs_top, jobs_set, opens_none, opens_top, opens_push}
 use Rattle.scheduler.proofs.Facts.{section_at_lem, sections_length}
 use Rattle.scheduler.proofs.Ghosts.{Ghosts, tall, known}
-use Rattle.scheduler.proofs.Picks.{by_depth}
 use Rattle.scheduler.proofs.Events.{high, top_count}
 
 -- the answer and the state of a live core
 module _ (live : Bool) (k : Table) (c : Call) (s : State) (on : live ≡ true) (o : Outcome) (is : step k c s ≡ o) where
-  pub live_answer : answer_of live k c s ≡ o.answer
-  live_answer = cond-true live (step k c s).answer _ on ∙ ap (λ (x : Outcome). x.answer) is
+  pub live_answer : answer_of live k c s ≡ told o.answer
+  live_answer = cond-true live (told (step k c s).answer) _ on ∙ ap (λ (x : Outcome). told x.answer) is
 
   pub live_after : state_after live k c s ≡ o.state
   live_after = cond-true live (step k c s).state _ on ∙ ap (λ (x : Outcome). x.state) is
@@ -78,10 +76,10 @@ module _ (k : Records) (i : Inner) (gh : Ghosts k i) where
         | inl lt ↦
             ap (λ (s : SectionRecord). ltb x k.sizes.sections && (eqb s.task (job_at i p).task && same_place s.around (innermost_of (job_at i p)))) (sym (section_at_lem k x lt))
             ∙ ap (λ (o : Option ℕ). ltb x k.sizes.sections && (eqb (section_at (table_of k) x).task (job_at i p).task && same_place (section_at (table_of k) x).around o)) (innermost_over p h)
-            ∙ ap (λ n. ltb x n && (eqb (section_at (table_of k) x).task (job_at i p).task && same_place (section_at (table_of k) x).around (innermost (job_of (job_at i p)).opened))) (sym (sections_length k gh.0))
+            ∙ ap (λ n. ltb x n && (eqb (section_at (table_of k) x).task (job_at i p).task && same_place (section_at (table_of k) x).around (innermost (job_of (job_at i p)).opened))) (sym (sections_length k gh.copied))
         | inr ge ↦
             let no_more : ltb x k.sizes.sections ≡ false = le-ltb x k.sizes.sections ge in
-            let none_left : ltb x (length (table_of k).sections) ≡ false = le-ltb x (length (table_of k).sections) (omega (arith, sections_length k gh.0)) in
+            let none_left : ltb x (length (table_of k).sections) ≡ false = le-ltb x (length (table_of k).sections) (omega (arith, sections_length k gh.copied)) in
             ap (λ b. b && (eqb (get_or k.sections x no_section).task (job_at i p).task && same_place (get_or k.sections x no_section).around (innermost_of (job_at i p)))) no_more
             ∙ sym (ap (λ b. b && (eqb (section_at (table_of k) x).task (job_at i p).task && same_place (section_at (table_of k) x).around (innermost (job_of (job_at i p)).opened))) none_left)
       ]
@@ -221,13 +219,13 @@ enter_some k i gh x e =
     let last : i.depth - 1 < i.depth = omega arith in
     let a = and_parts (ltb x (length (table_of k).sections)) _ (sym (enterable_over k i gh x (i.depth - 1) last) ∙ p.1) in
     let b = and_parts (eqb (section_at (table_of k) x).task (top_of i).task) _ a.1 in
-    let nested = and_from (ltb x (length (table_of k).sections)) _ a.0 (and_from (same_place (section_at (table_of k) x).around (innermost (job_of (top_of i)).opened)) _ b.1 (gh.1.1.1.0 (i.depth - 1) last)) in
+    let nested = and_from (ltb x (length (table_of k).sections)) _ a.0 (and_from (same_place (section_at (table_of k) x).around (innermost (job_of (top_of i)).opened)) _ b.1 (gh.nested (i.depth - 1) last)) in
     record {
       some = some;
-      in_table = omega (arith, ltb-true _ _ a.0, sections_length k gh.0);
+      in_table = omega (arith, ltb-true _ _ a.0, sections_length k gh.copied);
       counted = ltb-true _ _ p.2;
       nested = nested;
-      room = omega (arith, chain_short k gh.0 (record { section = x; serial = i.counts.entries } ∷ (job_of (top_of i)).opened) nested, top_count k i gh some);
+      room = omega (arith, chain_short k gh.copied (record { section = x; serial = i.counts.entries } ∷ (job_of (top_of i)).opened) nested, top_count k i gh some);
     }
 
 -- an advance

@@ -1,17 +1,16 @@
 -- What an advance does before selection, over the core's own fields and the queues' lists, is what the machine does.
-use Rattle.std.proofs.Common.{◌≡◌, ℕ, ◌+◌, ◌-◌, ◌*◌, ◌^◌, ◌<◌, ◌≤◌, Bool, true, false, ◌&&◌, eqb, ltb, List, [], ◌∷◌, length, sym, refl, ap, ◌∙◌, subst, inl, inr, add-zero, arith}
+use Rattle.std.proofs.Common.{◌≡◌, ℕ, ◌+◌, ◌-◌, ◌<◌, ◌≤◌, true, false, ◌&&◌, eqb, ltb, List, [], ◌∷◌, length, sym, ap, ◌∙◌, subst, inl, inr, add-zero, arith}
 use Rattle.std.proofs.lemmas.Bool.{cond-true, cond-false, and_parts, cases_lt, ltb-true, lt-ltb}
-use Rattle.table.specs.Limits.{deepest}
 use Rattle.queue.specs.declared.waiting.Waiting.{Waiting}
 use Rattle.queue.specs.declared.released.Released.{Released}
 use Rattle.queue.specs.Order.{insert_sorted}
 use Rattle.queue.specs.Entries.{waiting_before, released_before}
-use Rattle.machine.specs.State.{Table, Job, State, Counts as Tally}
-use Rattle.machine.specs.Step.{top_expired, lapsed, released_at, release_of, put_back}
+use Rattle.machine.specs.State.{Table, State}
+use Rattle.machine.specs.Step.{top_expired, lapsed, released_at, release_of}
 use Rattle.scheduler.specs.declared.records.Records.{Records}
 use Rattle.scheduler.specs.declared.stack.Inner.{Inner}
-use Rattle.scheduler.specs.View.{table_of, job_of, jobs_of, tally_of, state_of}
-use Rattle.scheduler.specs.Steady.{job_at, latest, next_of}
+use Rattle.scheduler.specs.View.{table_of, job_of, jobs_of, state_of}
+use Rattle.scheduler.specs.Steady.{next_of}
 use Rattle.scheduler.specs.Moves.{top_of, most, expired_by, is_due, again_of}
 use Rattle.scheduler.specs.Moves.{lapsed_by, released_by}
 use Rattle.scheduler.specs.Fitted.{Listed}

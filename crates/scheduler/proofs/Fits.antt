@@ -1,6 +1,6 @@
 -- How the lists fit the core's own fields is kept by each inner move: a job ends, lapses, is released or is pushed, and a section opens or closes.
-use Rattle.std.proofs.Common.{◌≡◌, ℕ, ◌+◌, ◌-◌, ◌*◌, ◌<◌, ◌≤◌, Bool, true, false, eqb, ◌≢◌, List, [], ◌∷◌, length, get_or, sym, refl, ap, ◌∙◌, subst, inl, inr, arith}
-use Rattle.std.specs.List.{AllByRecursion as All}
+use Rattle.std.proofs.Common.{◌≡◌, ℕ, ◌+◌, ◌-◌, ◌*◌, ◌<◌, ◌≤◌, Bool, true, false, eqb, ◌≢◌, List, ◌∷◌, length, sym, refl, ap, ◌∙◌, subst, inl, inr, arith}
+use Rattle.std.specs.List.{AllByRecursion}
 use Rattle.std.proofs.lemmas.Bool.{cases_eq, eq-eqb, eqb-true, or_left, or_right, or_cases, false≢true}
 use Rattle.std.proofs.ByRecursion.{All-weaker}
 use Rattle.table.specs.Limits.{most_tasks, largest}
@@ -11,7 +11,7 @@ use Rattle.queue.specs.Meaning.{queued}
 use Rattle.queue.specs.Answer.{inserted}
 use Rattle.queue.specs.Entries.{waiting_before, released_before, waiting_order, released_order}
 use Rattle.queue.proofs.Queued.{queued_insert}
-use Rattle.machine.specs.State.{Job, relative, period}
+use Rattle.machine.specs.State.{Job}
 use Rattle.machine.specs.Step.{last_instant, release_of}
 use Rattle.machine.proofs.Lists.{all_insert, all_map2}
 use Rattle.machine.proofs.Flow.{length-insert}
@@ -21,10 +21,10 @@ use Rattle.scheduler.specs.declared.stack.Spot.{Spot}
 use Rattle.scheduler.specs.declared.stack.Spot.TheVariants.{Waiting as Waits, Released as IsReleased, Stacked}
 use Rattle.scheduler.specs.declared.question.Counts.{Counts}
 use Rattle.scheduler.specs.declared.stack.Inner.{Inner}
-use Rattle.scheduler.specs.View.{table_of, job_of, jobs_of}
+use Rattle.scheduler.specs.View.{table_of, jobs_of}
 use Rattle.scheduler.specs.Steady.{job_at, spot_at, stands_at, latest, next_of}
 use Rattle.scheduler.specs.Moves.{with_counts, with_spot, with_top, top_of, pushed, popped}
-use Rattle.scheduler.specs.Fitted.{sum_of, WaitsIn, ReleasedIn, ahead, Listed}
+use Rattle.scheduler.specs.Fitted.{sum_of, WaitsIn, ReleasedIn, Listed}
 use Rattle.scheduler.proofs.Jobs.{jobs_top, jobs_push, jobs_set, jobs_length}
 use Rattle.scheduler.proofs.Facts.{timed_at}
 use Rattle.scheduler.proofs.Ghosts.{Ghosts, tall, known, noted, spot_same, spot_other}
@@ -42,28 +42,28 @@ released_waits s a b = let z : ◌≡◌ {A = ℕ} 0 1 = cc in omega arith
 
 module _ (k : Records) (i : Inner) where
   -- tasks with another spot are other tasks
-  pub others_waiting : (task : ℕ) (ws : List Waiting) → (spot_at i task ≡ Waits → ⊥) → All (WaitsIn k i) ws → All (λ w. w.task ≢ task) ws
+  pub others_waiting : (task : ℕ) (ws : List Waiting) → (spot_at i task ≡ Waits → ⊥) → AllByRecursion (WaitsIn k i) ws → AllByRecursion (λ w. w.task ≢ task) ws
   others_waiting task ws not all = All-weaker (WaitsIn k i) (λ w. w.task ≢ task) (λ w h e. not (ap (spot_at i) (sym e) ∙ h.1)) ws all
 
-  pub others_released : (task : ℕ) (rs : List Released) → (spot_at i task ≡ IsReleased → ⊥) → All (ReleasedIn k i) rs → All (λ e. e.task ≢ task) rs
+  pub others_released : (task : ℕ) (rs : List Released) → (spot_at i task ≡ IsReleased → ⊥) → AllByRecursion (ReleasedIn k i) rs → AllByRecursion (λ e. e.task ≢ task) rs
   others_released task rs not all = All-weaker (ReleasedIn k i) (λ e. e.task ≢ task) (λ e h q. not (ap (spot_at i) (sym q) ∙ h.1)) rs all
 
   -- a note of one task leaves the others' spots
-  keep_waiting : (task : ℕ) (s : Spot) (ws : List Waiting) → All (λ w. w.task ≢ task) ws → All (WaitsIn k i) ws → All (WaitsIn k (with_spot i task s)) ws
+  keep_waiting : (task : ℕ) (s : Spot) (ws : List Waiting) → AllByRecursion (λ w. w.task ≢ task) ws → AllByRecursion (WaitsIn k i) ws → AllByRecursion (WaitsIn k (with_spot i task s)) ws
   keep_waiting task s ws apart all =
       all_map2 (λ w. w.task ≢ task) (WaitsIn k i) (WaitsIn k (with_spot i task s)) (λ w ne h. (h.0, spot_other i task w.task s ne ∙ h.1, h.2)) ws apart all
 
-  keep_released : (task : ℕ) (s : Spot) (rs : List Released) → All (λ e. e.task ≢ task) rs → All (ReleasedIn k i) rs → All (ReleasedIn k (with_spot i task s)) rs
+  keep_released : (task : ℕ) (s : Spot) (rs : List Released) → AllByRecursion (λ e. e.task ≢ task) rs → AllByRecursion (ReleasedIn k i) rs → AllByRecursion (ReleasedIn k (with_spot i task s)) rs
   keep_released task s rs apart all =
       all_map2 (λ e. e.task ≢ task) (ReleasedIn k i) (ReleasedIn k (with_spot i task s)) (λ e ne h. (h.0, spot_other i task e.task s ne ∙ h.1, h.2)) rs apart all
 
 module _ (k : Records) (i : Inner) (gh : Ghosts k i) where
   -- the next release of a task is not too far off
   pub next_near : (task deadline : ℕ) → task < k.sizes.tasks → deadline ≤ latest → next_of (table_of k) task deadline ≤ latest + largest
-  next_near task deadline h soon = omega (arith, (timed_at k gh.0 task h).near)
+  next_near task deadline h soon = omega (arith, (timed_at k gh.copied task h).near)
 
   spot_room : (task : ℕ) → task < k.sizes.tasks → task < length i.spots
-  spot_room task h = omega (arith, gh.0.2, (tall k i gh).1)
+  spot_room task h = omega (arith, gh.copied.2, (tall k i gh).1)
 
   -- every task with a spot is among the entries
   module _ {E : Type 0} (f : E → ℕ) (v : Spot) where
@@ -109,7 +109,7 @@ module _ (k : Records) (i : Inner) (gh : Ghosts k i) where
         (jobs_each (λ j. next_of (table_of k) j.task j.deadline ≤ latest + largest) i.stack i.depth depth_room
         (λ p h. next_near (job_at i p).task (job_at i p).deadline (known k i gh p h).0 (known k i gh p h).1)) in
         let d = jobs_length i.stack i.depth depth_room in
-        omega (arith, a, b, c, d, li.few, li.places, gh.0.2)
+        omega (arith, a, b, c, d, li.few, li.places, gh.copied.2)
 
     -- the job at the top ends: its task waits for its next release
     module _ (some : 0 < i.depth) where
@@ -125,11 +125,11 @@ module _ (k : Records) (i : Inner) (gh : Ghosts k i) where
       abbrev again : Waiting
       again = record { release = next_of (table_of k) (top_of i).task (top_of i).deadline; task = (top_of i).task }
 
-      end_apart : All (λ w. w.task ≢ (top_of i).task) ws
+      end_apart : AllByRecursion (λ w. w.task ≢ (top_of i).task) ws
       end_apart = others_waiting k i (top_of i).task ws (stacked_waits (spot_at i (top_of i).task) (i.depth - 1) top_stands) li.waiting
 
       pub end_put : inserted waiting_order wc again ws ≡ insert_sorted waiting_before again ws
-      end_put = put_in waiting_order wc again ws (omega (arith, top_known, gh.0.2)) (none_of (λ w. w.task) (top_of i).task ws end_apart) (omega (arith, li.places, li.waiting_room))
+      end_put = put_in waiting_order wc again ws (omega (arith, top_known, gh.copied.2)) (none_of (λ w. w.task) (top_of i).task ws end_apart) (omega (arith, li.places, li.waiting_room))
 
       pub end_listed :
           (c : Counts) → c.releases ≡ i.counts.releases → c.finishes + c.expiries ≡ i.counts.finishes + i.counts.expiries + 1
@@ -176,15 +176,15 @@ module _ (k : Records) (i : Inner) (gh : Ghosts k i) where
 
   -- the first released job
   module _ (ws : List Waiting) (e : Released) (es : List Released) (wc rc : ℕ) (li : Listed k i ws (e ∷ es) wc rc) (single : queued (λ (x : Released). x.task) e.task es ≡ false) where
-    rest_apart : All (λ x. x.task ≢ e.task) es
+    rest_apart : AllByRecursion (λ x. x.task ≢ e.task) es
     rest_apart = not_of (λ x. x.task) e.task es single
 
-    first_apart : All (λ w. w.task ≢ e.task) ws
+    first_apart : AllByRecursion (λ w. w.task ≢ e.task) ws
     first_apart = others_waiting k i e.task ws (released_waits (spot_at i e.task) li.released.0.1) li.waiting
 
     -- is pushed
     pub push_room : i.depth < most_tasks
-    push_room = omega (arith, li.places, gh.0.2)
+    push_room = omega (arith, li.places, gh.copied.2)
 
     pub push_listed : Listed k (pushed i e.task e.deadline) ws es wc rc
     push_listed =
@@ -209,7 +209,7 @@ module _ (k : Records) (i : Inner) (gh : Ghosts k i) where
 
     pub lapse_put : inserted waiting_order wc waits ws ≡ insert_sorted waiting_before waits ws
     lapse_put =
-        put_in waiting_order wc waits ws (omega (arith, li.released.0.0, gh.0.2)) (none_of (λ w. w.task) e.task ws first_apart) (omega (arith, li.places, li.waiting_room))
+        put_in waiting_order wc waits ws (omega (arith, li.released.0.0, gh.copied.2)) (none_of (λ w. w.task) e.task ws first_apart) (omega (arith, li.places, li.waiting_room))
 
     pub lapse_listed :
         (c : Counts) → c.releases ≡ i.counts.releases → c.finishes ≡ i.counts.finishes → c.expiries ≡ i.counts.expiries + 1
@@ -236,20 +236,20 @@ module _ (k : Records) (i : Inner) (gh : Ghosts k i) where
     out = release_of (table_of k) w
 
     out_soon : out.deadline ≤ latest
-    out_soon = let t = timed_at k gh.0 w.task li.waiting.0.0 in omega (arith, t.near, t.cyclic)
+    out_soon = let t = timed_at k gh.copied w.task li.waiting.0.0 in omega (arith, t.near, t.cyclic)
 
-    out_apart : All (λ e. e.task ≢ w.task) rs
+    out_apart : AllByRecursion (λ e. e.task ≢ w.task) rs
     out_apart = others_released k i w.task rs (λ e. released_waits (spot_at i w.task) e li.waiting.0.1) li.released
 
     pub release_put : inserted released_order rc out rs ≡ insert_sorted released_before out rs
     release_put =
-        put_in released_order rc out rs (omega (arith, li.waiting.0.0, gh.0.2)) (none_of (λ e. e.task) w.task rs out_apart) (omega (arith, li.places, li.released_room))
+        put_in released_order rc out rs (omega (arith, li.waiting.0.0, gh.copied.2)) (none_of (λ e. e.task) w.task rs out_apart) (omega (arith, li.places, li.released_room))
 
     pub release_listed :
         (c : Counts) → c.releases ≡ i.counts.releases + 1 → c.finishes ≡ i.counts.finishes → c.expiries ≡ i.counts.expiries
         → Listed k (with_spot (with_counts i c) w.task IsReleased) ws (insert_sorted released_before out rs) wc rc
     release_listed c re fi ex =
-        let t = timed_at k gh.0 w.task li.waiting.0.0 in
+        let t = timed_at k gh.copied w.task li.waiting.0.0 in
         let sum = sum-insert (λ (e : Released). next_of (table_of k) e.task e.deadline) released_before out rs in
         record {
           waiting_room = li.waiting_room;

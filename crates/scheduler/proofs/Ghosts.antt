@@ -1,9 +1,8 @@
 -- What holds of the core's own fields is kept by each of its inner moves.
-use Rattle.std.proofs.Common.{◌≡◌, ℕ, ◌+◌, ◌-◌, ◌<◌, ◌≤◌, true, false, eqb, ltb, ◌≢◌, List, [], ◌∷◌, length, get_or, set, sym, refl, ap, ◌∙◌, subst, inl, inr, arith, length-set}
-use Rattle.std.proofs.lemmas.Bool.{cases_eq, cases_lt, eq-eqb, eqb-true, eqb-false, false≢true, and_parts, and_from, ltb-true, lt-ltb}
+use Rattle.std.proofs.Common.{◌≡◌, ℕ, ◌+◌, ◌-◌, ◌<◌, ◌≤◌, true, false, ltb, ◌≢◌, List, length, get_or, set, sym, refl, ap, ◌∙◌, subst, inl, inr, arith, length-set}
+use Rattle.std.proofs.lemmas.Bool.{cases_eq, eq-eqb, eqb-true, false≢true, and_parts, and_from, ltb-true, lt-ltb}
 use Rattle.std.proofs.lemmas.List.{get_or-set_same, get_or-set_other}
 use Rattle.table.specs.Limits.{most_tasks, deepest}
-use Rattle.machine.specs.State.{Job}
 use Rattle.machine.specs.Step.{most_entries}
 use Rattle.machine.specs.Promise.{open_count}
 use Rattle.scheduler.specs.declared.records.Records.{Records}
@@ -13,17 +12,23 @@ use Rattle.scheduler.specs.declared.stack.Spot.TheVariants.{Waiting, Released, S
 use Rattle.scheduler.specs.declared.question.Counts.{Counts}
 use Rattle.scheduler.specs.declared.stack.Inner.{Inner}
 use Rattle.scheduler.specs.declared.run_core.Core.{Core}
-use Rattle.scheduler.specs.View.{table_of, opens_of, job_of, jobs_of}
+use Rattle.scheduler.specs.View.{table_of, opens_of, jobs_of}
 use Rattle.scheduler.specs.Steady.{Copied, Tall, Known, Nested, Noted, Placed, Balanced, no_record, job_at, spot_at, stands_at, stood_by, latest, chained}
 use Rattle.scheduler.specs.Moves.{with_counts, with_spot, with_top, top_of, pushed, popped}
 use Rattle.scheduler.proofs.Jobs.{jobs_top, jobs_push, jobs_set, opens_none, opens_length}
 
 -- all of it, as the check asks for it where a core is made or given back
-abbrev pub Ghosts : Records → Inner → Type 0
-Ghosts k i = Copied k × (Tall i × (Known k i × (Nested k i × (Noted i × (Placed i × (Balanced i × Unit {0}))))))
+pub record Ghosts (k : Records) (i : Inner) : Type 0 where
+  pub copied : Copied k
+  pub tall : Tall i
+  pub known : Known k i
+  pub nested : Nested k i
+  pub noted : Noted i
+  pub placed : Placed i
+  pub balanced : Balanced i
 
 pub ghosts_of : {W R : Type 0} (c : Core W R) → Ghosts c.records c.inner
-ghosts_of c = (c.copied, (c.tall, (c.known, (c.nested, (c.noted, (c.placed, (c.balanced, tt)))))))
+ghosts_of c = record { copied = c.copied; tall = c.tall; known = c.known; nested = c.nested; noted = c.noted; placed = c.placed; balanced = c.balanced }
 
 -- a spot that stands for a place of the stack
 pub stands_is : (s : Spot) (p : ℕ) → stands_at s p ≡ true → s ≡ Stacked p
@@ -91,22 +96,22 @@ module _ (i j : Inner) where
 
 module _ (k : Records) (i : Inner) (gh : Ghosts k i) where
   abbrev pub tall : Tall i
-  tall = gh.1.0
+  tall = gh.tall
 
   abbrev pub known : Known k i
-  known = gh.1.1.0
+  known = gh.known
 
   abbrev pub noted : Noted i
-  noted = gh.1.1.1.1.0
+  noted = gh.noted
 
   abbrev pub placed : Placed i
-  placed = gh.1.1.1.1.1.0
+  placed = gh.placed
 
   abbrev pub balanced : Balanced i
-  balanced = gh.1.1.1.1.1.1.0
+  balanced = gh.balanced
 
   pub task_room : (p : ℕ) → p < i.depth → (job_at i p).task < length i.spots
-  task_room p h = omega (arith, (known p h).0, gh.0.2, tall.1)
+  task_room p h = omega (arith, (known p h).0, gh.copied.2, tall.1)
 
   -- a job more on the stack
   module _ (task deadline : ℕ) (room : i.depth < most_tasks) (in_table : task < k.sizes.tasks) (soon : deadline ≤ latest) (off : Off (spot_at i task)) where
@@ -141,40 +146,27 @@ module _ (k : Records) (i : Inner) (gh : Ghosts k i) where
 
     pub push_ghosts : Ghosts k (pushed i task deadline)
     unfolding fresh
-    push_ghosts = (
-      gh.0,
-      (
-        (
-          length-set i.stack i.depth _ ∙ tall.0,
-          length-set i.spots task _ ∙ tall.1,
-          omega arith,
-          λ p h.
-              elim (cases_eq p i.depth) [
-                | inl e ↦ subst (λ n. length (job_at (pushed i task deadline) n).opened ≡ deepest) (sym e) (ap (λ (r : StackRecord). length r.opened) push_top ∙ tall.3 i.depth room)
-                | inr ne ↦ ap (λ (r : StackRecord). length r.opened) (push_at p ne) ∙ tall.3 p h
-              ],
-        ),
-        (
-          pushed_all (λ p r. (r.task < k.sizes.tasks) × (r.deadline ≤ latest) × (r.count ≤ deepest)) known (in_table, soon, omega arith),
-          (
-            pushed_all (λ p r. chained (table_of k) (opens_of r.opened r.count) ≡ true) gh.1.1.1.0 (ap (chained (table_of k)) (opens_none (job_at i i.depth).opened)),
-            (
-              pushed_all (λ p r. stands_at (spot_at (pushed i task deadline) r.task) p ≡ true)
-                  (λ p h. ap (λ x. stands_at x p) (spot_other i task (job_at i p).task (Stacked i.depth) (apart i task (job_at i p).task p off (noted p h))) ∙ noted p h)
-                  (is_stands _ i.depth (spot_same i task (Stacked i.depth) (omega (arith, in_table, gh.0.2, tall.1)))),
-              (
-                placed_kept i (pushed i task deadline) task (Stacked i.depth) refl tall.1 push_stood
-                    (λ p h _. (omega arith, ap (λ (r : StackRecord). r.task) (push_at p (omega arith)))) placed,
-                (
-                  push_balance,
-                  tt,
-                ),
-              ),
-            ),
-          ),
-        ),
-      ),
-    )
+    push_ghosts = record {
+      copied = gh.copied;
+      tall = (
+        length-set i.stack i.depth _ ∙ tall.0,
+        length-set i.spots task _ ∙ tall.1,
+        omega arith,
+        λ p h.
+            elim (cases_eq p i.depth) [
+              | inl e ↦ subst (λ n. length (job_at (pushed i task deadline) n).opened ≡ deepest) (sym e) (ap (λ (r : StackRecord). length r.opened) push_top ∙ tall.3 i.depth room)
+              | inr ne ↦ ap (λ (r : StackRecord). length r.opened) (push_at p ne) ∙ tall.3 p h
+            ],
+      );
+      known = pushed_all (λ p r. (r.task < k.sizes.tasks) × (r.deadline ≤ latest) × (r.count ≤ deepest)) known (in_table, soon, omega arith);
+      nested = pushed_all (λ p r. chained (table_of k) (opens_of r.opened r.count) ≡ true) gh.nested (ap (chained (table_of k)) (opens_none (job_at i i.depth).opened));
+      noted = pushed_all (λ p r. stands_at (spot_at (pushed i task deadline) r.task) p ≡ true)
+          (λ p h. ap (λ x. stands_at x p) (spot_other i task (job_at i p).task (Stacked i.depth) (apart i task (job_at i p).task p off (noted p h))) ∙ noted p h)
+          (is_stands _ i.depth (spot_same i task (Stacked i.depth) (omega (arith, in_table, gh.copied.2, tall.1))));
+      placed = placed_kept i (pushed i task deadline) task (Stacked i.depth) refl tall.1 push_stood
+          (λ p h _. (omega arith, ap (λ (r : StackRecord). r.task) (push_at p (omega arith)))) placed;
+      balanced = push_balance;
+    }
 
   -- how many sections are open on a stack that is not empty
   pub top_open : 0 < i.depth → open_count (jobs_of i.stack i.depth) ≡ (top_of i).count + open_count (jobs_of i.stack (i.depth - 1))
@@ -189,37 +181,24 @@ module _ (k : Records) (i : Inner) (gh : Ghosts k i) where
       (c : Counts) → 0 < i.depth → c.entries ≡ i.counts.entries → c.leaves ≡ i.counts.leaves → c.taken ≡ i.counts.taken + (top_of i).count
       → Ghosts k (popped (with_counts i c))
   pop_ghosts c some en le ta =
-      let last : i.depth - 1 < i.depth = omega arith in (
-        gh.0,
-        (
-          (tall.0, length-set i.spots (top_of i).task Waiting ∙ tall.1, omega (arith, tall.2), tall.3),
-          (
-            (λ p h. known p (omega arith)),
-            (
-              (λ p h. gh.1.1.1.0 p (omega arith)),
-              (
-                (λ p h.
-                    let lt : p < i.depth = omega arith in
-                    let ne : i.depth - 1 ≢ p = omega arith in
-                    ap (λ x. stands_at x p) (spot_other i (top_of i).task (job_at i p).task Waiting
-                    (apart_places i (top_of i).task (job_at i p).task (i.depth - 1) p ne (noted (i.depth - 1) last) (noted p lt))) ∙ noted p lt),
-                (
-                  placed_kept i (popped (with_counts i c)) (top_of i).task Waiting refl tall.1 refl
-                      (λ p h other.
-                      elim (cases_eq p (i.depth - 1)) [
-                        | inl e ↦ absurd (other (ap (λ n. (job_at i n).task) e))
-                        | inr ne ↦ (omega arith, refl)
-                      ]) placed,
-                  (
-                    (omega (arith, balanced.0, top_open some), omega (arith, balanced.1)),
-                    tt,
-                  ),
-                ),
-              ),
-            ),
-          ),
-        ),
-      )
+      let last : i.depth - 1 < i.depth = omega arith in record {
+        copied = gh.copied;
+        tall = (tall.0, length-set i.spots (top_of i).task Waiting ∙ tall.1, omega (arith, tall.2), tall.3);
+        known = (λ p h. known p (omega arith));
+        nested = (λ p h. gh.nested p (omega arith));
+        noted = (λ p h.
+            let lt : p < i.depth = omega arith in
+            let ne : i.depth - 1 ≢ p = omega arith in
+            ap (λ x. stands_at x p) (spot_other i (top_of i).task (job_at i p).task Waiting
+            (apart_places i (top_of i).task (job_at i p).task (i.depth - 1) p ne (noted (i.depth - 1) last) (noted p lt))) ∙ noted p lt);
+        placed = placed_kept i (popped (with_counts i c)) (top_of i).task Waiting refl tall.1 refl
+            (λ p h other.
+            elim (cases_eq p (i.depth - 1)) [
+              | inl e ↦ absurd (other (ap (λ n. (job_at i n).task) e))
+              | inr ne ↦ (omega arith, refl)
+            ]) placed;
+        balanced = (omega (arith, balanced.0, top_open some), omega (arith, balanced.1));
+      }
 
   -- the top job with other open sections
   module _ (r : StackRecord) (some : 0 < i.depth) where
@@ -244,36 +223,23 @@ module _ (k : Records) (i : Inner) (gh : Ghosts k i) where
     top_ghosts c own due few wide nest even fine =
         let last : i.depth - 1 < i.depth = omega arith in
         let long = opens_length r.opened r.count (omega arith) in
-        let jobs = ap open_count (jobs_set i.stack i.depth r some (omega (arith, tall.0, tall.2))) in (
-          gh.0,
-          (
-            (
-              length-set i.stack (i.depth - 1) r ∙ tall.0,
-              tall.1,
-              tall.2,
-              λ p h.
-                  elim (cases_eq p (i.depth - 1)) [
-                    | inl e ↦ subst (λ n. length (job_at (with_top i r) n).opened ≡ deepest) (sym e) (ap (λ (q : StackRecord). length q.opened) top_here ∙ wide)
-                    | inr ne ↦ ap (λ (q : StackRecord). length q.opened) (top_at p ne) ∙ tall.3 p h
-                  ],
-            ),
-            (
-              top_all (λ p q. (q.task < k.sizes.tasks) × (q.deadline ≤ latest) × (q.count ≤ deepest)) known
-                  (omega (arith, own, (known (i.depth - 1) last).0), omega (arith, due, (known (i.depth - 1) last).1), few),
-              (
-                top_all (λ p q. chained (table_of k) (opens_of q.opened q.count) ≡ true) gh.1.1.1.0 nest,
-                (
-                  top_all (λ p q. stands_at (spot_at i q.task) p ≡ true) noted (ap (λ n. stands_at (spot_at i n) (i.depth - 1)) own ∙ noted (i.depth - 1) last),
-                  (
-                    (λ t h. stood_kept i (with_counts (with_top i r) c) t (spot_at i t)
-                        (λ p lt own_task. (lt, top_all (λ n q. q.task ≡ (job_at i n).task) (λ _ _. refl) own p lt ∙ own_task)) (placed t h)),
-                    (
-                      (omega (arith, balanced.0, top_open some, jobs, long), fine),
-                      tt,
-                    ),
-                  ),
-                ),
-              ),
-            ),
-          ),
-        )
+        let jobs = ap open_count (jobs_set i.stack i.depth r some (omega (arith, tall.0, tall.2))) in record {
+          copied = gh.copied;
+          tall = (
+            length-set i.stack (i.depth - 1) r ∙ tall.0,
+            tall.1,
+            tall.2,
+            λ p h.
+                elim (cases_eq p (i.depth - 1)) [
+                  | inl e ↦ subst (λ n. length (job_at (with_top i r) n).opened ≡ deepest) (sym e) (ap (λ (q : StackRecord). length q.opened) top_here ∙ wide)
+                  | inr ne ↦ ap (λ (q : StackRecord). length q.opened) (top_at p ne) ∙ tall.3 p h
+                ],
+          );
+          known = top_all (λ p q. (q.task < k.sizes.tasks) × (q.deadline ≤ latest) × (q.count ≤ deepest)) known
+              (omega (arith, own, (known (i.depth - 1) last).0), omega (arith, due, (known (i.depth - 1) last).1), few);
+          nested = top_all (λ p q. chained (table_of k) (opens_of q.opened q.count) ≡ true) gh.nested nest;
+          noted = top_all (λ p q. stands_at (spot_at i q.task) p ≡ true) noted (ap (λ n. stands_at (spot_at i n) (i.depth - 1)) own ∙ noted (i.depth - 1) last);
+          placed = (λ t h. stood_kept i (with_counts (with_top i r) c) t (spot_at i t)
+              (λ p lt own_task. (lt, top_all (λ n q. q.task ≡ (job_at i n).task) (λ _ _. refl) own p lt ∙ own_task)) (placed t h));
+          balanced = (omega (arith, balanced.0, top_open some, jobs, long), fine);
+        }

@@ -1,28 +1,26 @@
 -- A grant and the stack: it is open in the one job that its task has there, or nowhere.
-use Rattle.std.proofs.Common.{◌≡◌, ℕ, zero, suc, ◌+◌, ◌-◌, ◌<◌, ◌≤◌, Bool, true, false, cond, ◌&&◌, ◌||◌, eqb, ltb, ◌≢◌, List, [], ◌∷◌, length, get_or, sym, refl, ap, ◌∙◌, subst, inl, inr, add-one, arith}
-use Rattle.std.proofs.lemmas.Bool.{cond-true, cond-false, cases_eq, cases_lt, eq-eqb, ne_eqb, eqb-true, lt-ltb, le-ltb, ltb-true, and_parts, and_left, false≢true}
-use Rattle.table.specs.Limits.{most_tasks, deepest}
+use Rattle.std.proofs.Common.{◌≡◌, ℕ, zero, suc, ◌+◌, ◌-◌, ◌<◌, ◌≤◌, Bool, true, false, cond, ◌&&◌, ◌||◌, eqb, ltb, ◌≢◌, List, [], ◌∷◌, length, get_or, sym, refl, ap, ◌∙◌, inl, inr, add-one, arith}
+use Rattle.std.proofs.lemmas.Bool.{cond-true, cond-false, cases_eq, cases_lt, ne_eqb, eqb-true, lt-ltb, le-ltb, ltb-true, and_parts, and_left, false≢true}
+use Rattle.table.specs.Limits.{most_tasks}
 use Rattle.queue.specs.declared.waiting.Waiting.{Waiting as WaitingEntry}
 use Rattle.queue.specs.declared.released.Released.{Released as ReleasedEntry}
 use Rattle.machine.specs.declared.call.Ticket.{Ticket}
 use Rattle.machine.specs.declared.call.Call.TheVariants.{Leave}
 use Rattle.machine.specs.declared.call.Answer.TheVariants.{Running}
 use Rattle.machine.specs.declared.call.Refusal.TheVariants.{NotInnermost, NotOpen}
-use Rattle.machine.specs.State.{Table, Open, Job, State, running}
+use Rattle.machine.specs.State.{Open, Job, State, running}
 use Rattle.machine.specs.Step.{Outcome, refused, step, opens_for, among_open, grant_open, is_innermost, closed, left, selected}
 use Rattle.scheduler.specs.declared.records.Records.{Records}
 use Rattle.scheduler.specs.declared.stack.StackRecord.{StackRecord}
 use Rattle.scheduler.specs.declared.stack.Spot.{Spot}
 use Rattle.scheduler.specs.declared.stack.Spot.TheVariants.{Waiting, Released, Stacked}
 use Rattle.scheduler.specs.declared.stack.Inner.{Inner}
-use Rattle.scheduler.specs.View.{table_of, open_of, opens_of, job_of, jobs_of, tally_of, state_of}
-use Rattle.scheduler.specs.Steady.{no_record, job_at, spot_at, stands_at, stood_by, chained}
+use Rattle.scheduler.specs.View.{table_of, open_of, opens_of, job_of, jobs_of, state_of}
+use Rattle.scheduler.specs.Steady.{no_record, job_at, spot_at, stands_at, stood_by}
 use Rattle.scheduler.specs.Moves.{top_of, no_open, last_open, with_closed, innermost_for, open_for, opened_for}
 use Rattle.scheduler.specs.Moves.{left_by}
-use Rattle.scheduler.specs.Calls.{stacked}
 use Rattle.scheduler.proofs.Jobs.{jobs_none, jobs_top, jobs_more, jobs_set, opens_none, opens_top}
-use Rattle.scheduler.proofs.Facts.{chained_parts}
-use Rattle.scheduler.proofs.Ghosts.{Ghosts, tall, known, noted, placed, stands_is}
+use Rattle.scheduler.proofs.Ghosts.{Ghosts, tall, known, noted, placed}
 use Rattle.scheduler.proofs.Events.{high}
 
 or_none : (a : Bool) → (a || false) ≡ a
@@ -64,7 +62,7 @@ module _ (k : Records) (i : Inner) (gh : Ghosts k i) (task : ℕ) where
       ne_eqb (job_at i p).task task (λ e. false≢true (sym (off p) ∙ ap (λ x. stands_at x p) (is ∙ ap (spot_at i) (sym e)) ∙ noted k i gh p h))
 
   far_job : most_tasks ≤ task → (p : ℕ) → p < i.depth → eqb (job_at i p).task task ≡ false
-  far_job far p h = ne_eqb (job_at i p).task task (λ e. omega (arith, (known k i gh p h).0, gh.0.2))
+  far_job far p h = ne_eqb (job_at i p).task task (λ e. omega (arith, (known k i gh p h).0, gh.copied.2))
 
   -- and one that is has just one
   module _ (small : task < most_tasks) (at : ℕ) (is : spot_at i task ≡ Stacked at) where

@@ -1,7 +1,6 @@
 -- Arrays that are filled from the front, read as lists with the last first: jobs on the stack, and open sections of a job.
-use Rattle.std.proofs.Common.{◌≡◌, ℕ, ◌+◌, ◌-◌, ◌<◌, ◌≤◌, List, [], ◌∷◌, map, reverse, length, get_or, take, set, sym, refl, ap, ◌∙◌, arith}
+use Rattle.std.proofs.Common.{◌≡◌, ℕ, ◌+◌, ◌-◌, ◌<◌, ◌≤◌, List, [], ◌∷◌, map, reverse, length, get_or, take, set, refl, ap, ◌∙◌, arith}
 use Rattle.std.proofs.lemmas.List.{take_more, take_more_set, reverse-append, length-reverse, length-map, length-take-le}
-use Rattle.machine.specs.State.{Open, Job}
 use Rattle.scheduler.specs.declared.stack.OpenSection.{OpenSection}
 use Rattle.scheduler.specs.declared.stack.StackRecord.{StackRecord}
 use Rattle.scheduler.specs.View.{open_of, opens_of, job_of, jobs_of}

@@ -1,20 +1,18 @@
 -- The place that is noted of a task is where it is: in one of the two lists, or on the stack.
-use Rattle.std.proofs.Common.{◌≡◌, ℕ, ◌<◌, ◌≤◌, Bool, true, false, cond, ◌||◌, eqb, ltb, ◌≢◌, List, [], ◌∷◌, length, Some, None, Option, sym, refl, ap, ◌∙◌, subst, inl, inr, arith}
-use Rattle.std.specs.List.{AllByRecursion as All}
+use Rattle.std.proofs.Common.{◌≡◌, ℕ, ◌<◌, ◌≤◌, Bool, true, false, cond, eqb, ltb, ◌≢◌, List, Some, None, Option, sym, refl, ap, ◌∙◌, inl, inr, arith}
 use Rattle.std.proofs.lemmas.Bool.{cond-true, cond-false, cases_lt, lt-ltb, le-ltb, eq-eqb, ne_eqb}
 use Rattle.std.proofs.ByRecursion.{All-weaker}
 use Rattle.table.specs.Limits.{most_tasks}
 use Rattle.queue.specs.declared.waiting.Waiting.{Waiting as WaitingEntry}
 use Rattle.queue.specs.declared.released.Released.{Released as ReleasedEntry}
 use Rattle.queue.specs.Meaning.{queued}
-use Rattle.machine.specs.State.{Job}
 use Rattle.scheduler.specs.declared.records.Records.{Records}
 use Rattle.scheduler.specs.declared.stack.Spot.{Spot}
 use Rattle.scheduler.specs.declared.stack.Spot.TheVariants.{Waiting, Released, Stacked}
 use Rattle.scheduler.specs.declared.stack.Inner.{Inner}
 use Rattle.scheduler.specs.declared.question.Place.{Place}
 use Rattle.scheduler.specs.declared.question.Place.TheVariants.{Waiting as IsWaiting, Released as IsReleased, Stacked as IsStacked}
-use Rattle.scheduler.specs.View.{job_of, jobs_of, state_of}
+use Rattle.scheduler.specs.View.{jobs_of, state_of}
 use Rattle.scheduler.specs.Steady.{job_at, spot_at, stands_at}
 use Rattle.scheduler.specs.Moves.{place_from, place_in}
 use Rattle.scheduler.specs.Fitted.{WaitsIn, ReleasedIn, Listed}
@@ -52,7 +50,7 @@ module _ (k : Records) (i : Inner) (gh : Ghosts k i) (ws : List WaitingEntry) (r
       ap (λ b. chosen false b stands) (sym (li.released_all task lt (sym is)))
       ∙ ap (λ b. chosen b is_out_lem stands) (sym (not_waiting (λ e. released_waits (spot_at i task) (sym is) e)))
   place_by lt (Stacked at) is =
-      let small : task < most_tasks = omega (arith, lt, gh.0.2) in
+      let small : task < most_tasks = omega (arith, lt, gh.copied.2) in
       let at-it = ap (λ (s : Spot). stands_at s at) (sym is) ∙ eq-eqb at at refl in
       let here : stands ≡ true =
       one_job (λ j. eqb j.task task) i.stack i.depth at (high k i gh) (stood_at k i gh task small at (sym is)) (λ q h ne. other_job k i gh task small at (sym is) q h ne)

@@ -1,10 +1,10 @@
 -- Lists of entries: when an entry is put in, what it leaves of sums and of what holds of each entry, and which tasks are not among them.
-use Rattle.std.proofs.Common.{◌≡◌, ℕ, zero, suc, ◌+◌, ◌-◌, ◌*◌, ◌<◌, ◌≤◌, Bool, true, false, ◌||◌, eqb, leb, ◌≢◌, List, [], ◌∷◌, length, get_or, Some, None, Option, sym, refl, ap, ◌∙◌, subst, inl, inr, suc-mul, add-one, arith}
-use Rattle.std.specs.List.{AllByRecursion as All}
-use Rattle.std.proofs.lemmas.Bool.{cond_both, or_from, or_left, ne_eqb, eq-eqb, lt-leb, false≢true}
+use Rattle.std.proofs.Common.{◌≡◌, ℕ, zero, suc, ◌+◌, ◌*◌, ◌<◌, ◌≤◌, Bool, true, false, ◌||◌, eqb, leb, ◌≢◌, List, [], ◌∷◌, length, get_or, Some, None, Option, sym, refl, ap, ◌∙◌, subst, suc-mul, add-one, arith}
+use Rattle.std.specs.List.{AllByRecursion}
+use Rattle.std.proofs.lemmas.Bool.{cond_both, or_from, ne_eqb, eq-eqb, lt-leb, false≢true}
 use Rattle.queue.specs.Order.{Order, insert_sorted}
 use Rattle.queue.specs.Meaning.{limit, first_of, rest_of, queued, Distinct, Sound}
-use Rattle.queue.specs.Answer.{unfit, chosen, refusal_of, unless, inserted}
+use Rattle.queue.specs.Answer.{unfit, chosen, unless, inserted}
 use Rattle.queue.specs.declared.refusal.Refusal.{Refusal}
 use Rattle.machine.specs.State.{Job}
 use Rattle.scheduler.specs.declared.stack.StackRecord.{StackRecord}
@@ -32,11 +32,11 @@ module _ {E : Type 0} where
       ap (λ (r : Option Refusal). unless r (insert_sorted o.before e xs) xs) (ap (λ b. chosen b (leb room (length xs))) u ∙ ap (chosen false) f)
 
   -- a task that no entry is of, and the other way round
-  pub none_of : (task : E → ℕ) (t : ℕ) (xs : List E) → All (λ x. task x ≢ t) xs → queued task t xs ≡ false
+  pub none_of : (task : E → ℕ) (t : ℕ) (xs : List E) → AllByRecursion (λ x. task x ≢ t) xs → queued task t xs ≡ false
   none_of task t [] a = refl
   none_of task t (x ∷ xs) a = or_from (eqb (task x) t) (queued task t xs) (ne_eqb (task x) t a.0) (none_of task t xs a.1)
 
-  pub not_of : (task : E → ℕ) (t : ℕ) (xs : List E) → queued task t xs ≡ false → All (λ x. task x ≢ t) xs
+  pub not_of : (task : E → ℕ) (t : ℕ) (xs : List E) → queued task t xs ≡ false → AllByRecursion (λ x. task x ≢ t) xs
   not_of task t [] q = tt
   not_of task t (x ∷ xs) q = (
     (λ e. false≢true (sym (or_no_left (eqb (task x) t) (queued task t xs) q) ∙ eq-eqb (task x) t e)),
@@ -63,13 +63,13 @@ module _ {E : Type 0} where
       let ih = sum-insert f b x ys in
       cond_both (b x y) (x ∷ y ∷ ys) (y ∷ insert_sorted b x ys) (λ zs. sum_of f zs ≡ f x + (f y + sum_of f ys)) (λ _. refl) (λ _. omega arith)
 
-  pub sum-most : (f : E → ℕ) (m : ℕ) (xs : List E) → All (λ x. f x ≤ m) xs → sum_of f xs ≤ length xs * m
+  pub sum-most : (f : E → ℕ) (m : ℕ) (xs : List E) → AllByRecursion (λ x. f x ≤ m) xs → sum_of f xs ≤ length xs * m
   sum-most f m [] a = omega arith
   sum-most f m (x ∷ xs) a = let ih = sum-most f m xs a.1 in omega (arith, suc-mul (length xs) m, a.0)
 
 -- what holds of each job of the stack
-pub jobs_each : (P : Job → Type 0) (rs : List StackRecord) (n : ℕ) → n ≤ length rs → ((p : ℕ) → p < n → P (job_of (get_or rs p no_record))) → All P (jobs_of rs n)
-jobs_each P rs zero le each = subst (All P) (sym (jobs_none rs)) tt
+pub jobs_each : (P : Job → Type 0) (rs : List StackRecord) (n : ℕ) → n ≤ length rs → ((p : ℕ) → p < n → P (job_of (get_or rs p no_record))) → AllByRecursion P (jobs_of rs n)
+jobs_each P rs zero le each = subst (AllByRecursion P) (sym (jobs_none rs)) tt
 jobs_each P rs (suc n) le each =
     let e : jobs_of rs (suc n) ≡ job_of (get_or rs n no_record) ∷ jobs_of rs n = ap (jobs_of rs) (sym (add-one n)) ∙ jobs_more rs n (omega arith) in
-    subst (All P) (sym e) (each n (omega arith), jobs_each P rs n (omega arith) (λ p h. each p (omega arith)))
+    subst (AllByRecursion P) (sym e) (each n (omega arith), jobs_each P rs n (omega arith) (λ p h. each p (omega arith)))

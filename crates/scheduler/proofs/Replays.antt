@@ -1,17 +1,19 @@
 -- Lists of calls: one call more, and what they come to on a core that runs and on a shut one.
-use Rattle.std.proofs.Common.{◌≡◌, ℕ, suc, ◌+◌, ◌<◌, Bool, true, false, List, [], ◌∷◌, ◌++◌, length, get_or, take, drop, set, replicate, sym, refl, ap, ◌∙◌, append_assoc, arith, length-take}
+use Rattle.std.proofs.Common.{◌≡◌, ℕ, suc, ◌+◌, ◌<◌, Bool, true, false, List, [], ◌∷◌, ◌++◌, map, length, get_or, take, drop, set, replicate, sym, refl, ap, ◌∙◌, append_assoc, arith, length-take}
 use Rattle.std.proofs.lemmas.List.{take_more, drop_more, set_at}
 use Rattle.machine.specs.declared.call.Call.{Call}
-use Rattle.machine.specs.declared.call.Answer.{Answer}
-use Rattle.machine.specs.declared.call.Answer.TheVariants.{Refused}
-use Rattle.machine.specs.declared.call.Refusal.TheVariants.{Shut}
 use Rattle.machine.specs.State.{Table, State, start}
 use Rattle.machine.specs.Step.{step}
-use Rattle.machine.specs.Run.{history_from, answers_of}
+use Rattle.machine.specs.Run.{history_from}
+use Rattle.machine.specs.Worked.{answers_of}
 use Rattle.machine.specs.Run.{state_from as machineFrom}
 use Rattle.admission.specs.Verdict.{Admitted}
 use Rattle.machine.proofs.Promised.{every_run}
+use Rattle.scheduler.specs.declared.answer.Answer.{Answer}
+use Rattle.scheduler.specs.declared.answer.Answer.TheVariants.{Refused}
+use Rattle.scheduler.specs.declared.answer.Refusal.TheVariants.{Shut}
 use Rattle.scheduler.specs.declared.records.Records.{Records}
+use Rattle.scheduler.specs.Answered.{told}
 use Rattle.scheduler.specs.View.{table_of}
 use Rattle.scheduler.specs.Calls.{answer_of, state_after}
 use Rattle.scheduler.specs.Replayed.{answers_from, state_from, Ran, AllShut}
@@ -53,9 +55,9 @@ module _ (live : Bool) (k : Table) where
 
 module _ (k : Table) where
   -- a core that runs does what the machine does
-  live_answers : (cs : List Call) (s : State) → answers_from true k cs s ≡ answers_of (history_from k s cs)
+  live_answers : (cs : List Call) (s : State) → answers_from true k cs s ≡ map told (answers_of (history_from k s cs))
   live_answers [] s = refl
-  live_answers (c ∷ cs) s = ap (λ (l : List Answer). (step k c s).answer ∷ l) (live_answers cs (step k c s).state)
+  live_answers (c ∷ cs) s = ap (λ (l : List Answer). told (step k c s).answer ∷ l) (live_answers cs (step k c s).state)
 
   live_state : (cs : List Call) (s : State) → state_from true k cs s ≡ machineFrom k s cs
   live_state [] s = refl

@@ -1,6 +1,6 @@
 -- A new core: every task is put into the waiting queue in turn, and what it keeps is sound.
-use Rattle.std.proofs.Common.{◌≡◌, ℕ, zero, suc, ◌+◌, ◌<◌, ◌≤◌, Bool, true, false, eqb, leb, ◌≢◌, List, [], ◌∷◌, length, get_or, replicate, sym, refl, ap, ◌∙◌, subst, inl, inr, add-zero, zero-add, add-one, arith}
-use Rattle.std.specs.List.{AllByRecursion as All}
+use Rattle.std.proofs.Common.{◌≡◌, ℕ, zero, suc, ◌+◌, ◌<◌, ◌≤◌, true, false, eqb, leb, ◌≢◌, List, [], ◌∷◌, length, sym, refl, ap, ◌∙◌, inl, inr, add-zero, zero-add, add-one, arith}
+use Rattle.std.specs.List.{AllByRecursion}
 use Rattle.std.proofs.lemmas.Bool.{cond-false, cases_eq, eq-eqb, eqb-true, leb-true, and_parts, or_left, or_right}
 use Rattle.std.proofs.lemmas.Simd.{get_or-replicate}
 use Rattle.std.proofs.lemmas.Bool.Decides.{nat_tests}
@@ -38,7 +38,7 @@ firsts_length i (suc n) = ap suc (firsts_length (i + 1) n)
 abbrev at : ℕ → Waiting
 at i = record { release = 0; task = i }
 
-firsts_below : (m n i : ℕ) → i + n ≤ m → All (λ (a : Waiting). a.task < m) (first_releases i n)
+firsts_below : (m n i : ℕ) → i + n ≤ m → AllByRecursion (λ (a : Waiting). a.task < m) (first_releases i n)
 firsts_below m zero i h = tt
 firsts_below m (suc n) i h = (omega arith, firsts_below m n (i + 1) (omega arith))
 
@@ -69,7 +69,7 @@ firsts_queued t (suc n) i low high =
       | inr ne ↦ or_right (eqb i t) _ (firsts_queued t n (i + 1) (omega arith) (omega arith))
     ]
 
-firsts_at : (n i : ℕ) → All (λ (a : Waiting). a.release ≡ 0) (first_releases i n)
+firsts_at : (n i : ℕ) → AllByRecursion (λ (a : Waiting). a.release ≡ 0) (first_releases i n)
 firsts_at zero i = tt
 firsts_at (suc n) i = (refl, firsts_at n (i + 1))
 
@@ -78,33 +78,20 @@ module _ (k : Records) (ok : Copied k) where
   fresh_spot t h = get_or-replicate most_tasks t Waits Waits h
 
   pub fresh_ghosts : Ghosts k fresh
-  fresh_ghosts = (
-    ok,
-    (
-      (
-        refl,
-        refl,
-        omega arith,
-        λ p h. ap (λ (r : StackRecord). length r.opened) (get_or-replicate most_tasks p _ no_record h),
-      ),
-      (
-        (λ p h. absurd (omega arith)),
-        (
-          (λ p h. absurd (omega arith)),
-          (
-            (λ p h. absurd (omega arith)),
-            (
-              (λ t h. ap (stood_by fresh t) (fresh_spot t h)),
-              (
-                (omega (arith, ap open_count (jobs_none fresh.stack)), omega arith),
-                tt,
-              ),
-            ),
-          ),
-        ),
-      ),
-    ),
-  )
+  fresh_ghosts = record {
+    copied = ok;
+    tall = (
+      refl,
+      refl,
+      omega arith,
+      λ p h. ap (λ (r : StackRecord). length r.opened) (get_or-replicate most_tasks p _ no_record h),
+    );
+    known = (λ p h. absurd (omega arith));
+    nested = (λ p h. absurd (omega arith));
+    noted = (λ p h. absurd (omega arith));
+    placed = (λ t h. ap (stood_by fresh t) (fresh_spot t h));
+    balanced = (omega (arith, ap open_count (jobs_none fresh.stack)), omega arith);
+  }
 
   pub fresh_listed : (wc rc : ℕ) → k.sizes.tasks ≤ wc → k.sizes.tasks ≤ rc → Listed k fresh (first_releases 0 k.sizes.tasks) [] wc rc
   fresh_listed wc rc wide broad =

@@ -1,18 +1,18 @@
 -- What the calls and the questions of a core answer. A call's answer is the machine's answer to it; a shut core refuses every call and stays as it
 -- is. A refusal that takes no grant hands the same one back.
-use Rattle.std.specs.Prelude.{◌≡◌, ℕ, Bool, true, false, cond, ◌||◌, List, [], ◌∷◌, Some, None, Ok, Err, Option, Result, ◌==◌}
+use Rattle.std.specs.Prelude.{◌≡◌, ℕ, Bool, false, cond, ◌||◌, List, [], ◌∷◌, Some, None, Ok, Err, Option, Result, ◌==◌}
 use Rattle.queue.specs.declared.waiting.Waiting.{Waiting as WaitingEntry}
 use Rattle.queue.specs.declared.released.Released.{Released as ReleasedEntry}
 use Rattle.queue.specs.Meaning.{queued}
 use Rattle.machine.specs.declared.call.Call.{Call}
-use Rattle.machine.specs.declared.call.Answer.{Answer}
-use Rattle.machine.specs.declared.call.Answer.TheVariants.{Advanced, Granted, Running as Runs, Refused}
-use Rattle.machine.specs.declared.call.Refusal.{Refusal}
-use Rattle.machine.specs.declared.call.Refusal.TheVariants.{Shut, NotInnermost, NotOpen}
+use Rattle.machine.specs.declared.call.Refusal.TheVariants.{NotInnermost, NotOpen}
 use Rattle.machine.specs.State.{Table, Job, State, inherited}
 use Rattle.machine.specs.State.{Counts as Tally}
-use Rattle.machine.specs.Answer.{refusal_number}
 use Rattle.machine.specs.Step.{step}
+use Rattle.scheduler.specs.declared.answer.Answer.{Answer}
+use Rattle.scheduler.specs.declared.answer.Answer.TheVariants.{Advanced, Granted, Running as Runs, Refused}
+use Rattle.scheduler.specs.declared.answer.Refusal.{Refusal}
+use Rattle.scheduler.specs.declared.answer.Refusal.TheVariants.{Shut, Machine}
 use Rattle.scheduler.specs.declared.question.Counts.{Counts}
 use Rattle.scheduler.specs.declared.grant.Grant.{Grant}
 use Rattle.scheduler.specs.declared.grant.LeaveRefusal.{LeaveRefusal}
@@ -20,11 +20,12 @@ use Rattle.scheduler.specs.declared.grant.LeaveRefusal.TheVariants.{Shut as Shut
 use Rattle.scheduler.specs.declared.question.Place.{Place}
 use Rattle.scheduler.specs.declared.question.Place.TheVariants.{Waiting, Released, Stacked}
 use Rattle.scheduler.specs.declared.question.Running.{Running}
+use Rattle.scheduler.specs.Answered.{told, refusal_number}
 use Rattle.scheduler.specs.View.{tally_of}
 
 -- what a core answers to a call in a state, and the state that it is left in
 abbrev pub answer_of : Bool → Table → Call → State → Answer
-answer_of live k c s = cond live (step k c s).answer (Refused Shut)
+answer_of live k c s = cond live (told (step k c s).answer) (Refused Shut)
 
 abbrev pub state_after : Bool → Table → Call → State → State
 state_after live k c s = cond live (step k c s).state s
@@ -38,11 +39,11 @@ abbrev pub of_enter : Result Grant Refusal → Answer
 of_enter (Ok g) = Granted g.ticket
 of_enter (Err r) = Refused r
 
--- the machine's refusal behind a refusal to leave
+-- the refusal behind a refusal to leave, without its grant
 abbrev pub refusal_of : LeaveRefusal → Refusal
 refusal_of (ShutBack g) = Shut
-refusal_of (NotInnermostBack g) = NotInnermost g.ticket
-refusal_of Spent = NotOpen
+refusal_of (NotInnermostBack g) = Machine (NotInnermost g.ticket)
+refusal_of Spent = Machine NotOpen
 
 abbrev pub of_leave : Result ℕ LeaveRefusal → Answer
 of_leave (Ok i) = Runs i

@@ -2,7 +2,7 @@
 -- machine (`view`). `Fitted` is all that a call asks of its caller: the queues are in order, have room for every task and hold no instant that is too late
 -- to count with, and their lists fit the core's own fields. `ready` says when queues can serve a table. `Calls` goes on with what calls answer.
 use Rattle.std.specs.Prelude.{◌≡◌, ℕ, ◌+◌, ◌<◌, ◌≤◌, Bool, true, ◌&&◌, List, [], ◌∷◌, length, ◌==◌, nat_le}
-use Rattle.std.specs.List.{AllByRecursion as All}
+use Rattle.std.specs.List.{AllByRecursion}
 use Rattle.table.specs.Limits.{largest}
 use Rattle.admission.specs.declared.pass.Pass.{Pass}
 use Rattle.queue.specs.declared.Queue.{Ghosts as Meaning}
@@ -12,7 +12,7 @@ use Rattle.queue.specs.Meaning.{queued}
 use Rattle.queue.specs.Entries.{waiting_order, released_order}
 use Rattle.machine.specs.State.{Table, Job, State}
 use Rattle.scheduler.specs.declared.records.Records.{Records}
-use Rattle.scheduler.specs.declared.stack.Spot.TheVariants.{Waiting as Waits, Released as IsReleased, Stacked}
+use Rattle.scheduler.specs.declared.stack.Spot.TheVariants.{Waiting as Waits, Released as IsReleased}
 use Rattle.scheduler.specs.declared.stack.Inner.{Inner}
 use Rattle.scheduler.specs.declared.run_core.Core.{Core}
 use Rattle.scheduler.specs.View.{table_of, jobs_of, state_of}
@@ -40,8 +40,8 @@ pub record Listed (k : Records) (i : Inner) (ws : List Waiting) (rs : List Relea
   pub waiting_room : k.sizes.tasks ≤ wc
   pub released_room : k.sizes.tasks ≤ rc
   pub places : length ws + length rs + i.depth ≡ k.sizes.tasks
-  pub waiting : All (WaitsIn k i) ws
-  pub released : All (ReleasedIn k i) rs
+  pub waiting : AllByRecursion (WaitsIn k i) ws
+  pub released : AllByRecursion (ReleasedIn k i) rs
   pub waiting_all : (t : ℕ) → t < k.sizes.tasks → spot_at i t ≡ Waits → queued (λ (w : Waiting). w.task) t ws ≡ true
   pub released_all : (t : ℕ) → t < k.sizes.tasks → spot_at i t ≡ IsReleased → queued (λ (e : Released). e.task) t rs ≡ true
   pub few : i.counts.releases ≤ ahead (table_of k) ws rs (jobs_of i.stack i.depth)

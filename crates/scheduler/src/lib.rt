@@ -5,6 +5,7 @@
 
 #![tactic(auto)]
 
+pub mod answer;
 pub mod grant;
 pub mod question;
 mod records;

@@ -7,10 +7,12 @@ ghost use Rattle.scheduler.specs.Fitted.{view, Fitted, pass_table, ready};
 ghost use Rattle.scheduler.specs.Calls.{answer_of, state_after};
 ghost use Rattle.scheduler.specs.Replayed.{answers_from, state_from, Ran, AllShut};
 
+use crate::answer::{Answer, Refusal};
 use crate::grant::{Grant, LeaveRefusal};
 use crate::run_core::Core;
 use admission::pass::Pass;
-use machine::call::{Answer, Call, Refusal};
+use machine::call;
+use machine::call::Call;
 use queue::{Queue, Released, Waiting};
 
 /// What replay was given, where there is not one place for each answer. It is handed back as it was.
@@ -46,9 +48,11 @@ fn make<W: Queue<Entry = Waiting>, R: Queue<Entry = Released>>(
             Ok(task) => Answer::Running(task),
             Err(LeaveRefusal::Shut(Grant { ticket: _ })) => Answer::Refused(Refusal::Shut),
             Err(LeaveRefusal::NotInnermost(Grant { ticket })) => {
-                Answer::Refused(Refusal::NotInnermost(ticket))
+                Answer::Refused(Refusal::Machine(call::Refusal::NotInnermost(ticket)))
             }
-            Err(LeaveRefusal::NotOpen) => Answer::Refused(Refusal::NotOpen),
+            Err(LeaveRefusal::NotOpen) => {
+                Answer::Refused(Refusal::Machine(call::Refusal::NotOpen))
+            },
         },
         Call::Finish => match core.finish() {
             Ok(task) => Answer::Running(task),
@@ -91,14 +95,14 @@ pub fn replay<'a, W: Queue<Entry = Waiting>, R: Queue<Entry = Released>>(
     answers: &mut [Answer],
 ) -> Result<Core<W, R>, NoRoom<'a, W, R>>
     requires pass { Passed pass }
-    requires ordered { W.Queue.ordered waiting_order waiting × R.Queue.ordered released_order released }
+    requires ordered { W.ordered waiting_order waiting × R.ordered released_order released }
     ensures room { is_ok result ≡ nat_le (length calls.now) (length answers.old) }
     ensures back { IfErr result (λ b. (pass_table b.pass ≡ pass_table pass.entry) × (b.pass.idle ≡ pass.entry.idle) × (b.waiting ≡ waiting) × (b.released ≡ released) × (answers.new ≡ answers.old)) }
     ensures fitted { IfOk result (Fitted W.Queue R.Queue) }
     ensures table { IfOk result (λ core. table_of core.records ≡ pass_table pass.entry) }
-    ensures live { IfOk result (λ core. core.live ≡ ready (pass_table pass.entry) (W.Queue.list waiting) (R.Queue.list released) (W.Queue.capacity waiting) (R.Queue.capacity released)) }
+    ensures live { IfOk result (λ core. core.live ≡ ready (pass_table pass.entry) (W.list waiting) (R.list released) (W.capacity waiting) (R.capacity released)) }
     ensures ran { IfOk result (λ core. core.live ≡ true → Ran (pass_table pass.entry) calls.now answers.new answers.old (view W.Queue R.Queue core)) }
-    ensures shut { IfOk result (λ core. core.live ≡ false → AllShut calls.now answers.new answers.old × (W.Queue.list core.waiting ≡ W.Queue.list waiting) × (R.Queue.list core.released ≡ R.Queue.list released)) }
+    ensures shut { IfOk result (λ core. core.live ≡ false → AllShut calls.now answers.new answers.old × (W.list core.waiting ≡ W.list waiting) × (R.list core.released ≡ R.list released)) }
 {
     if answers.len() < calls.len() {
         return Err(NoRoom {

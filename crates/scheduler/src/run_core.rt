@@ -3,7 +3,6 @@ ghost use Rattle.scheduler.specs.Steady.{Copied, Tall, Known, Nested, Noted, Pla
 
 use crate::records::Records;
 use crate::stack::Inner;
-use queue::{Queue, Released, Waiting};
 
 mod advance;
 mod enter;
@@ -15,8 +14,10 @@ mod questions;
 mod select;
 
 /// Runs an admitted table, event by event, over a queue of waiting and a queue of released tasks.
+///
+/// What it does asks for two queues that keep the queue's meaning, `W: Queue<Entry = Waiting>` and `R: Queue<Entry = Released>`; only of two such is one made.
 #[derive(Drop)]
-pub struct Core<W: Queue<Entry = Waiting>, R: Queue<Entry = Released>> {
+pub struct Core<W, R> {
     records: Records,
     inner: Inner,
     waiting: W,

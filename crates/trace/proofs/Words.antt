@@ -1,5 +1,5 @@
 -- Words, numbers and the calls that a line writes.
-use Rattle.std.proofs.Common.{◌≡◌, ℕ, suc, ◌+◌, ◌^◌, ◌<◌, true, List, [], ◌∷◌, ◌++◌, length, get_or, Some, None, Ok, Err, codes, IsUtf8, IsAscii, Option, Result, sym, refl, ap, ◌∙◌, subst, arith, Bor, rules, MatchOption}
+use Rattle.std.proofs.Common.{◌≡◌, ℕ, suc, true, List, [], ◌∷◌, ◌++◌, length, get_or, Some, None, Ok, Err, codes, IsUtf8, IsAscii, Option, Result, sym, refl, ◌∙◌, subst, arith, Bor, rules}
 use Rattle.std.specs.Str.Iter.{LacksByte}
 use Rattle.std.specs.Str.Parse.{ParsesUnsigned}
 use Rattle.std.specs.Result.{result_ok}
@@ -14,7 +14,7 @@ use Rattle.table.specs.Number.{decimal, decimal_from}
 use Rattle.machine.specs.declared.call.Ticket.{Ticket}
 use Rattle.machine.specs.declared.call.Call.{Call}
 use Rattle.machine.specs.declared.call.Call.TheVariants.{Advance, Enter, Leave, Finish}
-use Rattle.trace.specs.Line.{Number, Counts, Three, Names, Writes, Says}
+use Rattle.trace.specs.Line.{Number, Counts, Three, Writes}
 
 own : IsNumeralModel (λ ds. all_ascii_digits ds ≡ true) decimal
 own = numerals_by_fold _ tells_all_ascii_digits decimal_from (search rules)

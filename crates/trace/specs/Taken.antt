@@ -1,7 +1,7 @@
 -- What is taken from an input.
 use Rattle.std.specs.Prelude.{◌≡◌, ℕ, cond, List, [], ◌∷◌, map, is_some, Some, None, vec_items, codes, Option}
 use Rattle.std.specs.Option.{unwrap_or}
-use Rattle.std.specs.List.{AllByRecursion as All}
+use Rattle.std.specs.List.{AllByRecursion}
 use Rattle.std.specs.Str.{bytes_eq}
 use Rattle.machine.specs.declared.call.Call.{Call}
 use Rattle.trace.specs.declared.script.Line.{Line}
@@ -24,7 +24,7 @@ calls_of behind = cond (is_some (choice_of (line_of behind))) (behind_line behin
 
 -- each line has its bytes, and the call that they are
 abbrev pub Lined : List ℕ → List Line → Type 0
-Lined text lines = (map (λ (l : Line). l.given.now) lines ≡ filled (pieces_of text)) × All (λ (l : Line). Says l.given.now l.call) lines
+Lined text lines = (map (λ (l : Line). l.given.now) lines ≡ filled (pieces_of text)) × AllByRecursion (λ (l : Line). Says l.given.now l.call) lines
 
 pub record Taken (input : List ℕ) (s : Script) : Type 0 where
   pub table : s.table.now ≡ table_of input

@@ -11,9 +11,9 @@ ghost use Rattle.scheduler.specs.Fitted.{Fitted};
 use admission::admit::admit;
 use admission::pass::Pass;
 use anyhow::anyhow;
-use machine::call::{Answer, Refusal};
 use print::{Names, Standing, print_lines, print_standing};
 use queue::{HeapQueue, ListQueue, Queue, Released, Waiting};
+use scheduler::answer::{Answer, Refusal};
 use scheduler::replay::replay;
 use scheduler::run_core::Core;
 use script::{Queues, Script};
@@ -58,7 +58,7 @@ fn run_over<W: Queue<Entry = Waiting> + Drop, R: Queue<Entry = Released> + Drop>
     released: R,
 ) -> anyhow::Result<()>
     requires pass { Passed pass }
-    requires ordered { W.Queue.ordered waiting_order waiting × R.Queue.ordered released_order released }
+    requires ordered { W.ordered waiting_order waiting × R.ordered released_order released }
 {
     let (text, tasks) = (script.table, pass.tasks());
     let names = Names { text, tasks };

@@ -1,6 +1,6 @@
 //! What is printed: the answer of each call behind its line, and at the end what the questions answer.
 use crate::script::Line;
-use machine::call::Answer;
+use scheduler::answer::Answer;
 use scheduler::question::{Counts, Place, Running};
 use std::io;
 use std::io::Write;

@@ -140,10 +140,10 @@ fn at_empty_line(input: &[u8]) -> (&[u8], &[u8])
 fn choice(line: &[u8]) -> Option<Queues>
     ensures { result ≡ choice_of line.now }
 {
-    if line == b"queue list" {
+    if line == b"queue list".as_slice() {
         return Some(Queues::Lists);
     }
-    if line == b"queue heap" {
+    if line == b"queue heap".as_slice() {
         return Some(Queues::Heaps);
     }
     None

@@ -7,7 +7,7 @@ use std::test::Fail;
 fn lines_are_calls(rt: HostRuntime) -> Result<(), Fail> {
     let input = b"a\nb\n\nadvance 007\n\nenter 0\nleave 1 2 4294967295\nfinish";
     let script = Script::read(rt.alloc(), input)?;
-    assert!(rt; script.table == b"a\nb\n");
+    assert!(rt; script.table == b"a\nb\n".as_slice());
     let grant = Ticket {
         task: 1,
         section: 2,

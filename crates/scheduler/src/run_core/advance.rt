@@ -8,7 +8,8 @@ ghost use Rattle.scheduler.specs.Fitted.{view, Fitted};
 ghost use Rattle.scheduler.specs.Calls.{answer_of, state_after, of_advance};
 
 use super::Core;
-use machine::call::Refusal;
+use crate::answer::Refusal;
+use machine::call;
 use queue::{Queue, Released, Waiting};
 
 /// The last instant that the clock can show.
@@ -26,19 +27,19 @@ fn sooner(a: Option<u64>, b: Option<u64>) -> Option<u64>
 }
 
 /// Why an advance to t is refused, by the clock and what is due.
-fn refusal(t: u64, clock: u64, due: Option<u64>) -> Option<Refusal>
+fn refusal(t: u64, clock: u64, due: Option<u64>) -> Option<call::Refusal>
     ensures { result ≡ refused_at t clock due }
 {
     if t < clock {
-        return Some(Refusal::Past);
+        return Some(call::Refusal::Past);
     }
     if t > LAST_INSTANT {
-        return Some(Refusal::Far);
+        return Some(call::Refusal::Far);
     }
     match due {
         Some(due) => {
             if due < t {
-                Some(Refusal::BeyondDue(due))
+                Some(call::Refusal::BeyondDue(due))
             } else {
                 None
             }
@@ -51,7 +52,7 @@ impl<W: Queue<Entry = Waiting>, R: Queue<Entry = Released>> Core<W, R> {
     /// The absolute deadline of the first released job.
     fn first_deadline(&self) -> Option<u64>
         requires { Fitted W.Queue R.Queue self.now }
-        ensures { result ≡ first_deadline (R.Queue.list self.now.released) }
+        ensures { result ≡ first_deadline (R.list self.now.released) }
     {
         match self.released.first() {
             Some(e) => Some(e.deadline),
@@ -62,7 +63,7 @@ impl<W: Queue<Entry = Waiting>, R: Queue<Entry = Released>> Core<W, R> {
     /// The first release of a waiting task.
     fn first_release(&self) -> Option<u64>
         requires { Fitted W.Queue R.Queue self.now }
-        ensures { result ≡ first_release (W.Queue.list self.now.waiting) }
+        ensures { result ≡ first_release (W.list self.now.waiting) }
     {
         match self.waiting.first() {
             Some(w) => Some(w.release),
@@ -95,7 +96,7 @@ impl<W: Queue<Entry = Waiting>, R: Queue<Entry = Released>> Core<W, R> {
             return Err(Refusal::Shut);
         }
         if let Some(refusal) = refusal(t, self.inner.clock, self.next_due()) {
-            return Err(refusal);
+            return Err(Refusal::Machine(refusal));
         }
         self.inner.clock = t;
         let ended = self.expire_running(t);

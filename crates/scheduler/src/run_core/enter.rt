@@ -7,25 +7,27 @@ ghost use Rattle.scheduler.specs.Fitted.{view, Fitted};
 ghost use Rattle.scheduler.specs.Calls.{answer_of, state_after, of_enter};
 
 use super::Core;
+use crate::answer::Refusal;
 use crate::grant::Grant;
-use machine::call::{Refusal, Ticket};
+use machine::call;
+use machine::call::Ticket;
 use queue::{Queue, Released, Waiting};
 
 impl<W: Queue<Entry = Waiting>, R: Queue<Entry = Released>> Core<W, R> {
     /// Why an entry is refused, if it is.
-    fn enter_refusal(&self, section: usize) -> Option<Refusal>
+    fn enter_refusal(&self, section: usize) -> Option<call::Refusal>
         ensures { result ≡ enter_refusal self.now.records self.now.inner section }
     {
         let depth = self.inner.depth;
         if depth == 0 {
-            return Some(Refusal::NothingRuns);
+            return Some(call::Refusal::NothingRuns);
         }
         let top = &self.inner.stack[depth - 1];
         if !self.records.enterable(section, top) {
-            return Some(Refusal::NotEnterable);
+            return Some(call::Refusal::NotEnterable);
         }
         if self.inner.counts.entries == u32::MAX {
-            return Some(Refusal::TooManyEntries);
+            return Some(call::Refusal::TooManyEntries);
         }
         None
     }
@@ -43,7 +45,7 @@ impl<W: Queue<Entry = Waiting>, R: Queue<Entry = Released>> Core<W, R> {
             return Err(Refusal::Shut);
         }
         if let Some(refusal) = self.enter_refusal(section) {
-            return Err(refusal);
+            return Err(Refusal::Machine(refusal));
         }
         let task = self.inner.stack[self.inner.depth - 1].task;
         let serial = self.inner.enter(section as u32);

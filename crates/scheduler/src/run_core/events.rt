@@ -1,5 +1,5 @@
 //! What an advance does before selection: jobs end at their deadlines, and tasks are released.
-ghost use Rattle.std.specs.Prelude.{◌≡◌, ◌+◌, ◌<◌, ◌≤◌, true, false, length, if◌then◌else◌, ◌==◌};
+ghost use Rattle.std.specs.Prelude.{◌≡◌, ◌+◌, ◌<◌, ◌≤◌, true, false, length, if◌then◌else◌, nat_eq};
 ghost use Rattle.table.specs.Limits.{most_tasks};
 ghost use Rattle.machine.specs.Step.{last_instant, top_expired, lapsed, released_at};
 ghost use Rattle.scheduler.specs.View.{table_of, jobs_of};
@@ -11,7 +11,7 @@ use queue::{Queue, Released, Waiting};
 
 /// Whether an instant is the one that the clock now shows.
 fn is_now(instant: u64, t: u64) -> bool
-    ensures { result ≡ (instant == t) }
+    ensures { result ≡ nat_eq instant t }
 {
     instant == t
 }
@@ -53,9 +53,9 @@ impl<W: Queue<Entry = Waiting>, R: Queue<Entry = Released>> Core<W, R> {
         ensures live { self.new.live ≡ true }
         ensures fitted { Fitted W.Queue R.Queue self.new }
         ensures records { self.new.records ≡ self.old.records }
-        ensures counts { (self.new.inner.counts.expiries ≡ self.old.inner.counts.expiries + (if result then 1 else 0)) × (self.new.inner.counts.releases ≡ self.old.inner.counts.releases) × (length (R.Queue.list self.new.released) + (if result then 1 else 0) ≡ length (R.Queue.list self.old.released)) }
-        ensures same { lapsed (table_of self.old.records) t (view W.Queue R.Queue self.new) (R.Queue.list self.new.released) ≡ lapsed (table_of self.old.records) t (view W.Queue R.Queue self.old) (R.Queue.list self.old.released) }
-        ensures ends { result ≡ false → lapsed (table_of self.old.records) t (view W.Queue R.Queue self.new) (R.Queue.list self.new.released) ≡ view W.Queue R.Queue self.new }
+        ensures counts { (self.new.inner.counts.expiries ≡ self.old.inner.counts.expiries + (if result then 1 else 0)) × (self.new.inner.counts.releases ≡ self.old.inner.counts.releases) × (length (R.list self.new.released) + (if result then 1 else 0) ≡ length (R.list self.old.released)) }
+        ensures same { lapsed (table_of self.old.records) t (view W.Queue R.Queue self.new) (R.list self.new.released) ≡ lapsed (table_of self.old.records) t (view W.Queue R.Queue self.old) (R.list self.old.released) }
+        ensures ends { result ≡ false → lapsed (table_of self.old.records) t (view W.Queue R.Queue self.new) (R.list self.new.released) ≡ view W.Queue R.Queue self.new }
     {
         if let Some(e) = self.released.first() {
             if is_now(e.deadline, t) {
@@ -78,7 +78,7 @@ impl<W: Queue<Entry = Waiting>, R: Queue<Entry = Released>> Core<W, R> {
         ensures records { self.new.records ≡ self.old.records }
         ensures few { result ≤ most_tasks }
         ensures counts { (self.new.inner.counts.expiries ≡ self.old.inner.counts.expiries + result) × (self.new.inner.counts.releases ≡ self.old.inner.counts.releases) }
-        ensures after { view W.Queue R.Queue self.new ≡ lapsed (table_of self.old.records) t (view W.Queue R.Queue self.old) (R.Queue.list self.old.released) }
+        ensures after { view W.Queue R.Queue self.new ≡ lapsed (table_of self.old.records) t (view W.Queue R.Queue self.old) (R.list self.old.released) }
     {
         let mut ended = 0;
         while self.lapse_first(t) {
@@ -95,9 +95,9 @@ impl<W: Queue<Entry = Waiting>, R: Queue<Entry = Released>> Core<W, R> {
         ensures live { self.new.live ≡ true }
         ensures fitted { Fitted W.Queue R.Queue self.new }
         ensures records { self.new.records ≡ self.old.records }
-        ensures counts { (self.new.inner.counts.releases ≡ self.old.inner.counts.releases + (if result then 1 else 0)) × (self.new.inner.counts.expiries ≡ self.old.inner.counts.expiries) × (length (W.Queue.list self.new.waiting) + (if result then 1 else 0) ≡ length (W.Queue.list self.old.waiting)) }
-        ensures same { released_at (table_of self.old.records) t (view W.Queue R.Queue self.new) (W.Queue.list self.new.waiting) ≡ released_at (table_of self.old.records) t (view W.Queue R.Queue self.old) (W.Queue.list self.old.waiting) }
-        ensures ends { result ≡ false → released_at (table_of self.old.records) t (view W.Queue R.Queue self.new) (W.Queue.list self.new.waiting) ≡ view W.Queue R.Queue self.new }
+        ensures counts { (self.new.inner.counts.releases ≡ self.old.inner.counts.releases + (if result then 1 else 0)) × (self.new.inner.counts.expiries ≡ self.old.inner.counts.expiries) × (length (W.list self.new.waiting) + (if result then 1 else 0) ≡ length (W.list self.old.waiting)) }
+        ensures same { released_at (table_of self.old.records) t (view W.Queue R.Queue self.new) (W.list self.new.waiting) ≡ released_at (table_of self.old.records) t (view W.Queue R.Queue self.old) (W.list self.old.waiting) }
+        ensures ends { result ≡ false → released_at (table_of self.old.records) t (view W.Queue R.Queue self.new) (W.list self.new.waiting) ≡ view W.Queue R.Queue self.new }
     {
         if let Some(w) = self.waiting.first() {
             if is_now(w.release, t) {
@@ -121,7 +121,7 @@ impl<W: Queue<Entry = Waiting>, R: Queue<Entry = Released>> Core<W, R> {
         ensures records { self.new.records ≡ self.old.records }
         ensures few { result ≤ most_tasks }
         ensures counts { (self.new.inner.counts.releases ≡ self.old.inner.counts.releases + result) × (self.new.inner.counts.expiries ≡ self.old.inner.counts.expiries) }
-        ensures after { view W.Queue R.Queue self.new ≡ released_at (table_of self.old.records) t (view W.Queue R.Queue self.old) (W.Queue.list self.old.waiting) }
+        ensures after { view W.Queue R.Queue self.new ≡ released_at (table_of self.old.records) t (view W.Queue R.Queue self.old) (W.list self.old.waiting) }
     {
         let mut out = 0;
         while self.release_first(t) {

@@ -7,20 +7,21 @@ ghost use Rattle.scheduler.specs.Fitted.{view, Fitted};
 ghost use Rattle.scheduler.specs.Calls.{answer_of, state_after, of_finish};
 
 use super::Core;
-use machine::call::Refusal;
+use crate::answer::Refusal;
+use machine::call;
 use queue::{Queue, Released, Waiting};
 
 impl<W: Queue<Entry = Waiting>, R: Queue<Entry = Released>> Core<W, R> {
     /// Why a finish is refused, if it is.
-    fn finish_refusal(&self) -> Option<Refusal>
+    fn finish_refusal(&self) -> Option<call::Refusal>
         ensures { result ≡ finish_refusal self.now.inner }
     {
         let depth = self.inner.depth;
         if depth == 0 {
-            return Some(Refusal::NothingRuns);
+            return Some(call::Refusal::NothingRuns);
         }
         if self.inner.stack[depth - 1].count > 0 {
-            return Some(Refusal::StillOpen);
+            return Some(call::Refusal::StillOpen);
         }
         None
     }
@@ -38,7 +39,7 @@ impl<W: Queue<Entry = Waiting>, R: Queue<Entry = Released>> Core<W, R> {
             return Err(Refusal::Shut);
         }
         if let Some(refusal) = self.finish_refusal() {
-            return Err(refusal);
+            return Err(Refusal::Machine(refusal));
         }
         let entry = self.again();
         let _ = self.waiting.insert(entry);

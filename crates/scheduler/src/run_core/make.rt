@@ -16,12 +16,12 @@ use queue::{Queue, Released, Waiting};
 
 /// Puts every task into an empty queue, to be released at instant 0.
 fn fill<W: Queue<Entry = Waiting>>(waiting: &mut W, tasks: usize)
-    requires ordered { W.Queue.ordered waiting_order waiting.old }
-    requires empty { W.Queue.list waiting.old ≡ [] }
-    requires room { (tasks ≤ W.Queue.capacity waiting.old) × (tasks ≤ most_tasks) }
-    ensures ordered { W.Queue.ordered waiting_order waiting.new }
-    ensures capacity { W.Queue.capacity waiting.new ≡ W.Queue.capacity waiting.old }
-    ensures list { W.Queue.list waiting.new ≡ first_releases 0 tasks }
+    requires ordered { W.ordered waiting_order waiting.old }
+    requires empty { W.list waiting.old ≡ [] }
+    requires room { (tasks ≤ W.capacity waiting.old) × (tasks ≤ most_tasks) }
+    ensures ordered { W.ordered waiting_order waiting.new }
+    ensures capacity { W.capacity waiting.new ≡ W.capacity waiting.old }
+    ensures list { W.list waiting.new ≡ first_releases 0 tasks }
 {
     for task in 0..tasks {
         let _ = waiting.insert(Waiting { release: 0, task });
@@ -48,11 +48,11 @@ impl<W: Queue<Entry = Waiting>, R: Queue<Entry = Released>> Core<W, R> {
     /// question.
     pub fn new(pass: Pass, waiting: W, released: R) -> Core<W, R>
         requires pass { Passed pass }
-        requires ordered { W.Queue.ordered waiting_order waiting × R.Queue.ordered released_order released }
+        requires ordered { W.ordered waiting_order waiting × R.ordered released_order released }
         ensures fitted { Fitted W.Queue R.Queue result }
         ensures table { table_of result.records ≡ pass_table pass.entry }
         ensures own { result.inner ≡ fresh }
-        ensures live { result.live ≡ ready (pass_table pass.entry) (W.Queue.list waiting) (R.Queue.list released) (W.Queue.capacity waiting) (R.Queue.capacity released) }
+        ensures live { result.live ≡ ready (pass_table pass.entry) (W.list waiting) (R.list released) (W.capacity waiting) (R.capacity released) }
         ensures started { result.live ≡ true → view W.Queue R.Queue result ≡ start (pass_table pass.entry) }
         ensures same { result.live ≡ false → (result.waiting ≡ waiting) × (result.released ≡ released) }
     {

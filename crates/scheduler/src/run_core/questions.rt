@@ -7,9 +7,9 @@ ghost use Rattle.scheduler.specs.Fitted.{view, Fitted};
 ghost use Rattle.scheduler.specs.Calls.{asked, place_of, running_job, tallied};
 
 use super::Core;
+use crate::answer::Refusal;
 use crate::question::{Counts, Place, Running};
 use crate::stack::Spot;
-use machine::call::Refusal;
 use queue::{Queue, Released, Waiting};
 
 impl<W: Queue<Entry = Waiting>, R: Queue<Entry = Released>> Core<W, R> {

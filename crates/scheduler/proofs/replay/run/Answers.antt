@@ -2,7 +2,7 @@ use Rattle.std.proofs.Common.{◌≡◌, ◌<◌, Bool, List, ◌++◌, length, 
 use Rattle.std.proofs.lemmas.List.{take_all}
 use Rattle.machine.specs.declared.call.Call.{Call}
 use Rattle.machine.specs.declared.call.Call.TheVariants.{Advance}
-use Rattle.machine.specs.declared.call.Answer.{Answer}
+use Rattle.scheduler.specs.declared.answer.Answer.{Answer}
 use Rattle.machine.specs.State.{Table, State}
 use Rattle.scheduler.specs.View.{table_of}
 use Rattle.scheduler.specs.Fitted.{view}

@@ -1,4 +1,4 @@
-use Rattle.std.proofs.Common.{◌+◌, length, take, drop, ap, ◌∙◌, arith}
+use Rattle.std.proofs.Common.{◌+◌, length, ap, ◌∙◌, arith}
 use Rattle.std.proofs.lemmas.List.{length-drop}
 use Rattle.std.proofs.lemmas.Bool.{eq-eqb, ne_eqb}
 use Rattle.trace.proofs.Cuts.{whole_front, whole_rest, line_more, line_ends, line_over}

@@ -1,5 +1,5 @@
-use Rattle.std.proofs.Common.{◌≡◌, ℕ, ◌<◌, List, [], ◌∷◌, ◌++◌, length, vec_items, sym, ap, ◌∙◌, subst, arith}
-use Rattle.std.specs.List.{AllByRecursion as All}
+use Rattle.std.proofs.Common.{◌≡◌, ℕ, ◌<◌, List, length, vec_items, sym, ap, ◌∙◌, subst, arith}
+use Rattle.std.specs.List.{AllByRecursion}
 use Rattle.std.proofs.ByRecursion.{All-push}
 use Rattle.std.proofs.lemmas.Bool.{eqb-true, eqb-false}
 use Rattle.trace.specs.declared.script.Line.{Line}
@@ -15,7 +15,7 @@ loop-rest-preserved-in_ok-push c =
     let items = c.in_ok-push.ensures.items in
     let some : 0 < length (line_of c.loop-rest.rest.now) = omega (arith, eqb-false (length given) 0 (sym c.if-not-is_empty.ensures), ap length c.first_line.ensures.line) in (
       lines_push (λ (x : Line). x.given.now) (vec_items c.loop-rest.lines) (vec_items c.push.new.self) c.read.result c.loop-rest.rest.now c.first_line.result.1.now _ items (c.read.ensures.given ∙ c.first_line.ensures.line) c.first_line.ensures.behind some c.loop-rest.invariant.0,
-      subst (All Good) (sym items) (All-push Good (vec_items c.loop-rest.lines) c.read.result c.loop-rest.invariant.1 (subst (λ (l : List ℕ). Says l c.read.result.call) (sym c.read.ensures.given) c.read.ensures.call)),
+      subst (AllByRecursion Good) (sym items) (All-push Good (vec_items c.loop-rest.lines) c.read.result c.loop-rest.invariant.1 (subst (λ (l : List ℕ). Says l c.read.result.call) (sym c.read.ensures.given) c.read.ensures.call)),
     )
 
 pub loop-rest-preserved : goal.loop-rest-preserved

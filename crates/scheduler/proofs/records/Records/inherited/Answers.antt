@@ -1,6 +1,6 @@
-use Rattle.std.proofs.Common.{◌≡◌, ℕ, ◌<◌, get_or, sym, ap, ◌∙◌, arith}
+use Rattle.std.proofs.Common.{◌<◌, get_or, sym, ap, ◌∙◌, arith}
 use Rattle.table.specs.declared.records.TaskRecord.{TaskRecord}
-use Rattle.machine.specs.State.{Open, relative, lowered, or_lower, section_at}
+use Rattle.machine.specs.State.{relative, lowered, or_lower}
 use Rattle.scheduler.specs.View.{table_of, opens_of}
 use Rattle.scheduler.proofs.Jobs.{opens_none, opens_more}
 use Rattle.scheduler.proofs.Facts.{no_open, task_at_lem, sections_length, open_within}

@@ -1,6 +1,5 @@
-use Rattle.std.proofs.Common.{◌≡◌, ℕ, ◌+◌, ◌-◌, get_or, sym, ap, ◌∙◌, arith}
+use Rattle.std.proofs.Common.{◌≡◌, ℕ, ◌+◌, get_or, ap, arith}
 use Rattle.table.specs.declared.records.TaskRecord.{TaskRecord}
-use Rattle.queue.specs.declared.waiting.Waiting.{Waiting}
 use Rattle.scheduler.specs.View.{table_of}
 use Rattle.scheduler.specs.Steady.{next_of}
 use Rattle.scheduler.proofs.Facts.{no_task, task_at_lem, timed_at}

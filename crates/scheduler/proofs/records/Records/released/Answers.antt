@@ -1,4 +1,4 @@
-use Rattle.std.proofs.Common.{◌≡◌, ℕ, ◌+◌, sym, ap, ◌∙◌, arith}
+use Rattle.std.proofs.Common.{ℕ, ◌+◌, sym, ap, arith}
 use Rattle.table.specs.declared.records.TaskRecord.{TaskRecord}
 use Rattle.scheduler.proofs.Facts.{task_at_lem, timed_at}
 use Rattle.scheduler.proofs.records.Records.released.Goals as goal

@@ -1,13 +1,13 @@
-use Rattle.std.proofs.Common.{◌≡◌, ℕ, ◌+◌, ◌-◌, ◌<◌, ◌≤◌, true, List, ◌∷◌, Some, None, Option, sym, refl, ap, ◌∙◌, subst, arith}
+use Rattle.std.proofs.Common.{◌≡◌, ◌+◌, ◌-◌, Some, None, sym, refl, ap, ◌∙◌, arith}
 use Rattle.machine.specs.declared.call.Call.TheVariants.{Advance}
-use Rattle.machine.specs.declared.call.Answer.TheVariants.{Advanced}
-use Rattle.machine.specs.declared.call.Refusal.{Refusal}
-use Rattle.machine.specs.State.{Table, State, running}
-use Rattle.machine.specs.Step.{step, refused, not_advanced, top_expired, lapsed, released_at, selected, advanced, advanced_answer}
+use Rattle.machine.specs.State.{State, running}
+use Rattle.machine.specs.Step.{refused, not_advanced, lapsed, released_at, selected, advanced, advanced_answer}
+use Rattle.scheduler.specs.declared.answer.Answer.TheVariants.{Advanced}
 use Rattle.scheduler.specs.declared.records.Records.{Records}
+use Rattle.scheduler.specs.Answered.{told}
 use Rattle.scheduler.specs.declared.question.Counts.{Counts}
 use Rattle.scheduler.specs.View.{table_of, state_of}
-use Rattle.scheduler.specs.Moves.{with_clock, refused_at}
+use Rattle.scheduler.specs.Moves.{refused_at}
 use Rattle.scheduler.proofs.Picks.{running_over}
 use Rattle.scheduler.proofs.Calls.{live_answer, live_after, passed, advance_refused, advance_done, advance_is}
 use Rattle.scheduler.proofs.run_core.Core.advance.Goals as goal
@@ -59,7 +59,7 @@ returns g c =
     let outs : c.release-released.result ≡ s4.counts.releases - s.counts.releases =
     omega (arith, c.expire_running-ended.ensures.counts.1, c.lapse-lapsed.ensures.counts.1, c.release-released.ensures.counts.0, ap (λ (n : Counts). n.releases) c.select.ensures.counts) in
     let runs : c.running.result ≡ running s4.stack = c.running.ensures ∙ running_over c4.inner (omega (arith, c4.tall.0, c4.tall.2)) in
-    let told : Advanced (c.expire_running-ended.result + c.lapse-lapsed.result, c.release-released.result, c.running.result) ≡ advanced_answer s s4 =
+    let says : Advanced (c.expire_running-ended.result + c.lapse-lapsed.result, c.release-released.result, c.running.result) ≡ told (advanced_answer s s4) =
     ap (λ n. Advanced (n, c.release-released.result, c.running.result)) ends
     ∙ ap (λ n. Advanced (s4.counts.expiries - s.counts.expiries, n, c.running.result)) outs
     ∙ ap (λ n. Advanced (s4.counts.expiries - s.counts.expiries, s4.counts.releases - s.counts.releases, n)) runs in
@@ -67,6 +67,6 @@ returns g c =
       fitted = c.select.ensures.fitted;
       live = c.select.ensures.live ∙ sym c.if-not-self.false;
       table = c.select.ensures.records ∙ r3;
-      value = told ∙ ap (advanced_answer s) reached ∙ sym (live_answer self.live k (Advance t) s c.if-not-self.false (passed k t s) is);
+      value = says ∙ ap (λ (x : State). told (advanced_answer s x)) reached ∙ sym (live_answer self.live k (Advance t) s c.if-not-self.false (passed k t s) is);
       after = reached ∙ sym (live_after self.live k (Advance t) s c.if-not-self.false (passed k t s) is);
     }

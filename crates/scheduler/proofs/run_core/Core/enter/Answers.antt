@@ -1,14 +1,12 @@
-use Rattle.std.proofs.Common.{◌≡◌, ℕ, ◌+◌, ◌-◌, ◌<◌, ◌≤◌, true, List, ◌∷◌, length, set, Option, sym, refl, ap, ◌∙◌, subst, arith, length-set}
+use Rattle.std.proofs.Common.{◌≡◌, ℕ, ◌-◌, Option, sym, refl, ap, ◌∙◌, subst, arith, length-set}
 use Rattle.machine.specs.declared.call.Call.TheVariants.{Enter}
-use Rattle.machine.specs.declared.call.Answer.TheVariants.{Granted}
 use Rattle.machine.specs.declared.call.Refusal.{Refusal}
-use Rattle.machine.specs.declared.call.Ticket.{Ticket}
-use Rattle.machine.specs.State.{State, Open}
 use Rattle.machine.specs.Step.{step, refused}
+use Rattle.scheduler.specs.declared.answer.Answer.TheVariants.{Granted}
 use Rattle.scheduler.specs.declared.stack.Inner.{Inner}
-use Rattle.scheduler.specs.View.{table_of, job_of, state_of}
+use Rattle.scheduler.specs.View.{table_of, state_of}
 use Rattle.scheduler.specs.Steady.{chained}
-use Rattle.scheduler.specs.Moves.{top_of, with_open, enter_refusal}
+use Rattle.scheduler.specs.Moves.{top_of, with_open}
 use Rattle.scheduler.specs.Moves.{entered_by}
 use Rattle.scheduler.proofs.Jobs.{opens_push}
 use Rattle.scheduler.proofs.Ghosts.{Ghosts, ghosts_of, top_ghosts}
@@ -47,11 +45,12 @@ invariant_of-self g c =
     let x = c.args.section in
     let open-to = enter_some self.records i (ghosts_of self) x c.in_default.ensures in
     let wide = self.tall.3 (i.depth - 1) (omega (arith, self.tall.2, open-to.some)) in
-    subst (Ghosts self.records) (sym c.enter-serial.ensures.after)
+    let all = subst (Ghosts self.records) (sym c.enter-serial.ensures.after)
     (top_ghosts self.records i (ghosts_of self) (with_open x i.counts.entries (top_of i)) open-to.some (entered_by i x).counts refl refl (omega (arith, open-to.room))
     (length-set (top_of i).opened (top_of i).count _ ∙ wide)
     (ap (chained (table_of self.records)) (opens_push (top_of i).opened (top_of i).count (record { section = x; serial = i.counts.entries }) (omega (arith, open-to.room, wide))) ∙ open-to.nested)
-    (omega arith) (omega (arith, open-to.counted)))
+    (omega arith) (omega (arith, open-to.counted))) in
+    record { copied = all.copied; tall = all.tall; known = all.known; nested = all.nested; noted = all.noted; placed = all.placed; balanced = all.balanced }
 
 pub returns : goal.returns
 returns g c =

@@ -1,4 +1,4 @@
-use Rattle.std.proofs.Common.{◌≡◌, ℕ, ◌+◌, ◌-◌, ◌<◌, ◌≤◌, true, List, sym, refl, ap, ◌∙◌, subst, arith}
+use Rattle.std.proofs.Common.{◌≡◌, ◌-◌, List, sym, refl, ap, ◌∙◌, subst, arith}
 use Rattle.queue.specs.declared.waiting.Waiting.{Waiting}
 use Rattle.queue.specs.Order.{insert_sorted}
 use Rattle.queue.specs.Answer.{inserted}
@@ -44,7 +44,8 @@ invariant_of-self g c =
     let self = c.args.self.now in
     let gh = ghosts_of self in
     let some = due_some self.records self.inner gh c.args.t (g.W.Queue.list self.waiting) (g.R.Queue.list self.released) (sym c.if-not-is_due.ensures) in
-    subst (Ghosts self.records) (sym c.expire.ensures) (pop_ghosts self.records self.inner gh (expired_by self.inner).counts some refl refl refl)
+    let all = subst (Ghosts self.records) (sym c.expire.ensures) (pop_ghosts self.records self.inner gh (expired_by self.inner).counts some refl refl refl) in
+    record { copied = all.copied; tall = all.tall; known = all.known; nested = all.nested; noted = all.noted; placed = all.placed; balanced = all.balanced }
 
 pub returns : goal.returns
 returns g c =

@@ -1,17 +1,16 @@
-use Rattle.std.proofs.Common.{◌≡◌, ℕ, ◌+◌, ◌-◌, ◌<◌, ◌≤◌, true, List, Option, sym, refl, ap, ◌∙◌, subst, arith}
+use Rattle.std.proofs.Common.{◌≡◌, ◌-◌, List, Option, sym, refl, ap, ◌∙◌, subst, arith}
 use Rattle.queue.specs.declared.waiting.Waiting.{Waiting}
 use Rattle.queue.specs.Order.{insert_sorted}
 use Rattle.queue.specs.Answer.{inserted}
 use Rattle.queue.specs.Entries.{waiting_order, waiting_before}
 use Rattle.machine.specs.declared.call.Call.TheVariants.{Finish}
-use Rattle.machine.specs.declared.call.Answer.TheVariants.{Running}
 use Rattle.machine.specs.declared.call.Refusal.{Refusal}
 use Rattle.machine.specs.State.{State, running}
 use Rattle.machine.specs.Step.{step, refused, selected}
+use Rattle.scheduler.specs.declared.answer.Answer.TheVariants.{Running}
 use Rattle.scheduler.specs.declared.stack.Inner.{Inner}
-use Rattle.scheduler.specs.declared.records.Records.{Records}
 use Rattle.scheduler.specs.View.{table_of, state_of}
-use Rattle.scheduler.specs.Moves.{finished_by, again_of, finish_refusal}
+use Rattle.scheduler.specs.Moves.{finished_by, again_of}
 use Rattle.scheduler.proofs.Ghosts.{Ghosts, ghosts_of, pop_ghosts}
 use Rattle.scheduler.proofs.Fits.{end_put, end_listed, listed_as}
 use Rattle.scheduler.proofs.Picks.{running_over}
@@ -49,7 +48,8 @@ pub invariant_of-self : goal.invariant_of-self
 invariant_of-self g c =
     let self = c.args.self.now in
     let some = finish_some self.inner c.in_default.ensures in
-    subst (Ghosts self.records) (sym c.finish.ensures) (pop_ghosts self.records self.inner (ghosts_of self) (finished_by self.inner).counts some.0 refl refl (omega arith))
+    let all = subst (Ghosts self.records) (sym c.finish.ensures) (pop_ghosts self.records self.inner (ghosts_of self) (finished_by self.inner).counts some.0 refl refl (omega arith)) in
+    record { copied = all.copied; tall = all.tall; known = all.known; nested = all.nested; noted = all.noted; placed = all.placed; balanced = all.balanced }
 
 pub select-requires : goal.select-requires
 select-requires g c =

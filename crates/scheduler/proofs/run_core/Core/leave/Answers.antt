@@ -1,10 +1,10 @@
-use Rattle.std.proofs.Common.{◌≡◌, ℕ, ◌+◌, ◌-◌, ◌<◌, ◌≤◌, true, sym, refl, ap, ◌∙◌, subst, arith}
+use Rattle.std.proofs.Common.{◌≡◌, ◌-◌, ◌<◌, sym, refl, ap, ◌∙◌, subst, arith}
 use Rattle.std.proofs.lemmas.Bool.{cond-true, cond-false}
 use Rattle.machine.specs.declared.call.Call.TheVariants.{Leave}
-use Rattle.machine.specs.declared.call.Answer.TheVariants.{Running}
 use Rattle.machine.specs.declared.call.Refusal.TheVariants.{NotInnermost, NotOpen}
 use Rattle.machine.specs.State.{State, running}
 use Rattle.machine.specs.Step.{step, refused, selected}
+use Rattle.scheduler.specs.declared.answer.Answer.TheVariants.{Running}
 use Rattle.scheduler.specs.declared.stack.Inner.{Inner}
 use Rattle.scheduler.specs.View.{table_of, open_of, opens_of, state_of}
 use Rattle.scheduler.specs.Steady.{chained}
@@ -76,8 +76,9 @@ invariant_of-self g c =
     let few = (self.known (i.depth - 1) last).2 in
     let nest = (chained_parts (table_of self.records) (open_of (last_open (top_of i))) (opens_of (top_of i).opened ((top_of i).count - 1))
     (ap (chained (table_of self.records)) (sym (opens_top (top_of i).opened (top_of i).count no_open some.1 (omega (arith, few, wide)))) ∙ self.nested (i.depth - 1) last)).1 in
-    subst (Ghosts self.records) (sym c.leave.ensures)
-    (top_ghosts self.records i gh (with_closed (top_of i)) some.0 (left_by i).counts refl refl (omega (arith, few)) wide nest (omega (arith, some.1)) self.balanced.1)
+    let all = subst (Ghosts self.records) (sym c.leave.ensures)
+    (top_ghosts self.records i gh (with_closed (top_of i)) some.0 (left_by i).counts refl refl (omega (arith, few)) wide nest (omega (arith, some.1)) self.balanced.1) in
+    record { copied = all.copied; tall = all.tall; known = all.known; nested = all.nested; noted = all.noted; placed = all.placed; balanced = all.balanced }
 
 pub select-requires : goal.select-requires
 select-requires g c =

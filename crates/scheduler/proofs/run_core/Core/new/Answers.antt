@@ -1,4 +1,4 @@
-use Rattle.std.proofs.Common.{◌≡◌, ℕ, ◌≤◌, Bool, true, false, List, [], length, sym, refl, ap, ◌∙◌, subst, arith}
+use Rattle.std.proofs.Common.{◌≡◌, ℕ, true, List, [], length, sym, refl, ap, ◌∙◌, subst, arith}
 use Rattle.std.proofs.lemmas.Bool.{false≢true}
 use Rattle.std.proofs.lemmas.List.{nil_from_length}
 use Rattle.table.specs.declared.records.TaskRecord.{TaskRecord}
@@ -8,13 +8,13 @@ use Rattle.admission.specs.Sound.{sound}
 use Rattle.admission.proofs.SoundFacts.{judgeable_if_sound, few_sections}
 use Rattle.queue.specs.declared.waiting.Waiting.{Waiting}
 use Rattle.queue.specs.declared.released.Released.{Released}
-use Rattle.machine.specs.State.{Table, first_releases}
+use Rattle.machine.specs.State.{first_releases}
 use Rattle.scheduler.specs.declared.records.Records.{Records}
 use Rattle.scheduler.specs.declared.stack.Inner.{Inner}
 use Rattle.scheduler.specs.View.{table_of, state_of}
 use Rattle.scheduler.specs.Steady.{Copied}
 use Rattle.scheduler.specs.Moves.{fresh}
-use Rattle.scheduler.specs.Fitted.{pass_table, serve, ready}
+use Rattle.scheduler.specs.Fitted.{serve}
 use Rattle.scheduler.proofs.Ghosts.{Ghosts}
 use Rattle.scheduler.proofs.Fits.{listed_as}
 use Rattle.scheduler.proofs.Starts.{copied_from, served, fresh_ghosts, fresh_listed, fresh_state}
@@ -55,14 +55,16 @@ invariant_of-result g c =
     let k = c.copy-records.result in
     let e = c.copy-records.ensures in
     let ok = copies_sound k c.args.pass.tasks.now c.tasks.result.now c.args.pass.sections.now c.sections.result.now c.requires.pass.rules e.table e.sizes e.len c.tasks.ensures c.sections.ensures in
-    subst (Ghosts k) (sym c.new.ensures) (fresh_ghosts k ok)
+    let all = subst (Ghosts k) (sym c.new.ensures) (fresh_ghosts k ok) in
+    record { copied = all.copied; tall = all.tall; known = all.known; nested = all.nested; noted = all.noted; placed = all.placed; balanced = all.balanced }
 
 pub invariant_of-result-2 : goal.invariant_of-result-2
 invariant_of-result-2 g c =
     let k = c.copy-records.result in
     let e = c.copy-records.ensures in
     let ok = copies_sound k c.args.pass.tasks.now c.tasks.result.now c.args.pass.sections.now c.sections.result.now c.requires.pass.rules e.table e.sizes e.len c.tasks.ensures c.sections.ensures in
-    subst (Ghosts k) (sym c.new-2.ensures) (fresh_ghosts k ok)
+    let all = subst (Ghosts k) (sym c.new-2.ensures) (fresh_ghosts k ok) in
+    record { copied = all.copied; tall = all.tall; known = all.known; nested = all.nested; noted = all.noted; placed = all.placed; balanced = all.balanced }
 
 -- what was counted is what the queues hold
 same_ready : (n n' a a' b b' wc wc' rc rc' : ℕ) → n ≡ n' → a ≡ a' → b ≡ b' → wc ≡ wc' → rc ≡ rc' → serve n a b wc rc ≡ serve n' a' b' wc' rc'

@@ -1,5 +1,5 @@
-use Rattle.std.proofs.Common.{◌≡◌, ℕ, Option, ap, ◌∙◌, arith}
-use Rattle.machine.specs.State.{sooner, top_deadline, first_deadline, first_release}
+use Rattle.std.proofs.Common.{ℕ, Option, ap, ◌∙◌, arith}
+use Rattle.machine.specs.State.{sooner, top_deadline, first_deadline}
 use Rattle.scheduler.specs.View.{jobs_of}
 use Rattle.scheduler.proofs.Picks.{deadline_over}
 use Rattle.scheduler.proofs.run_core.Core.next_due.Goals as goal

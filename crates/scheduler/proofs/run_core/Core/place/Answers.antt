@@ -1,7 +1,7 @@
-use Rattle.std.proofs.Common.{◌≡◌, Ok, Err, Option, Result, sym, ap, ◌∙◌}
+use Rattle.std.proofs.Common.{Ok, Err, Option, Result, sym, ap, ◌∙◌}
 use Rattle.std.proofs.lemmas.Bool.{cond-true}
-use Rattle.machine.specs.declared.call.Refusal.{Refusal}
-use Rattle.machine.specs.declared.call.Refusal.TheVariants.{Shut}
+use Rattle.scheduler.specs.declared.answer.Refusal.{Refusal}
+use Rattle.scheduler.specs.declared.answer.Refusal.TheVariants.{Shut}
 use Rattle.scheduler.specs.declared.question.Place.{Place}
 use Rattle.scheduler.specs.View.{state_of}
 use Rattle.scheduler.specs.Calls.{place_of}

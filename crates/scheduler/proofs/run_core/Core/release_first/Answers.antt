@@ -1,4 +1,4 @@
-use Rattle.std.proofs.Common.{◌≡◌, ℕ, ◌+◌, ◌-◌, ◌<◌, ◌≤◌, true, false, List, ◌∷◌, length, sym, refl, ap, ◌∙◌, subst, arith}
+use Rattle.std.proofs.Common.{◌≡◌, ◌≤◌, List, length, sym, refl, ap, ◌∙◌, arith}
 use Rattle.std.proofs.lemmas.Bool.{false≢true, eqb-true}
 use Rattle.queue.specs.declared.waiting.Waiting.{Waiting}
 use Rattle.queue.specs.declared.released.Released.{Released}
@@ -10,7 +10,6 @@ use Rattle.machine.specs.Step.{last_instant, released_at, release_of}
 use Rattle.scheduler.specs.declared.stack.Inner.{Inner}
 use Rattle.scheduler.specs.View.{table_of, state_of}
 use Rattle.scheduler.specs.Moves.{released_by}
-use Rattle.scheduler.specs.Fitted.{Listed}
 use Rattle.scheduler.proofs.Ghosts.{ghosts_of}
 use Rattle.scheduler.proofs.Queues.{first_is, first_single}
 use Rattle.scheduler.proofs.Fits.{release_put, release_listed, listed_as}

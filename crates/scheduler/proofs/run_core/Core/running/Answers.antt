@@ -1,7 +1,7 @@
-use Rattle.std.proofs.Common.{◌≡◌, Ok, Err, Option, Result, sym, ap, ◌∙◌, arith}
+use Rattle.std.proofs.Common.{Ok, Err, Option, Result, sym, ap, ◌∙◌, arith}
 use Rattle.std.proofs.lemmas.Bool.{cond-true}
-use Rattle.machine.specs.declared.call.Refusal.{Refusal}
-use Rattle.machine.specs.declared.call.Refusal.TheVariants.{Shut}
+use Rattle.scheduler.specs.declared.answer.Refusal.{Refusal}
+use Rattle.scheduler.specs.declared.answer.Refusal.TheVariants.{Shut}
 use Rattle.scheduler.specs.declared.question.Running.{Running}
 use Rattle.scheduler.specs.View.{table_of, jobs_of}
 use Rattle.scheduler.specs.Calls.{running_job}

@@ -1,9 +1,8 @@
-use Rattle.std.proofs.Common.{◌≡◌, ℕ, ◌<◌, true, List, ◌∷◌, length, sym, refl, ap, ◌∙◌, subst, arith}
+use Rattle.std.proofs.Common.{ℕ, List, sym, refl, ap, ◌∙◌, subst, arith}
 use Rattle.queue.specs.declared.released.Released.{Released}
-use Rattle.queue.specs.Meaning.{rest_of, queued}
+use Rattle.queue.specs.Meaning.{rest_of}
 use Rattle.queue.specs.Entries.{released_order}
 use Rattle.scheduler.specs.declared.stack.Inner.{Inner}
-use Rattle.scheduler.specs.declared.question.Counts.{Counts}
 use Rattle.scheduler.specs.View.{table_of, state_of}
 use Rattle.scheduler.specs.Moves.{pushed}
 use Rattle.scheduler.specs.Fitted.{Listed}
@@ -22,10 +21,11 @@ invariant_of-self g c =
     let li = subst (λ (l : List Released). Listed self.records self.inner (g.W.Queue.list self.waiting) l (g.W.Queue.capacity self.waiting) (g.R.Queue.capacity self.released)) is (c.requires.fitted.lists c.requires.live) in
     let single = first_single released_order (g.R.Queue.capacity self.released) rs e c.in-Some.ensures (g.R.Queue.sound released_order self.released c.requires.fitted.released) in
     let gh = ghosts_of self in
-    subst (Ghosts self.records) (sym c.push.ensures)
+    let all = subst (Ghosts self.records) (sym c.push.ensures)
     (push_ghosts self.records self.inner gh e.task e.deadline
     (push_room self.records self.inner gh (g.W.Queue.list self.waiting) e (rest_of rs) _ _ li single) li.released.0.0 li.released.0.2
-    (off_released _ li.released.0.1))
+    (off_released _ li.released.0.1)) in
+    record { copied = all.copied; tall = all.tall; known = all.known; nested = all.nested; noted = all.noted; placed = all.placed; balanced = all.balanced }
 
 pub returns-then-goes : goal.returns-then-goes
 returns-then-goes g c =

@@ -1,8 +1,7 @@
-use Rattle.std.proofs.Common.{◌≡◌, ℕ, ◌<◌, List, sym, ap, ◌∙◌, arith}
+use Rattle.std.proofs.Common.{List, ap, ◌∙◌, arith}
 use Rattle.queue.specs.declared.waiting.Waiting.{Waiting}
 use Rattle.queue.specs.Answer.{inserted}
 use Rattle.queue.specs.Entries.{waiting_order}
-use Rattle.machine.specs.State.{first_releases}
 use Rattle.scheduler.proofs.Starts.{firsts_put}
 use Rattle.scheduler.proofs.run_core.make.fill.Goals as goal
 

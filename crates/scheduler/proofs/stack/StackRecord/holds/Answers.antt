@@ -1,4 +1,4 @@
-use Rattle.std.proofs.Common.{◌≡◌, ◌||◌, sym, refl, ap, ◌∙◌, arith}
+use Rattle.std.proofs.Common.{◌||◌, sym, ap, ◌∙◌, arith}
 use Rattle.machine.specs.Step.{among_open}
 use Rattle.scheduler.specs.View.{opens_of}
 use Rattle.scheduler.specs.Moves.{no_open}
