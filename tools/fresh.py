@@ -1,8 +1,8 @@
 #!/usr/bin/env python3
 """Fresh inputs for the built programs, compared with tools/simulator.py.
 
-    python3 tools/fresh.py texts COUNT SEED [PROGRAM]    texts against target/bin/edfi
-    python3 tools/fresh.py runs  COUNT SEED [PROGRAM]    runs against target/bin/trace
+    python3 tools/fresh.py texts COUNT SEED [PROGRAM]    texts against crates/edfi/out/edfi
+    python3 tools/fresh.py runs  COUNT SEED [PROGRAM]    runs against crates/trace/out/trace
     python3 tools/fresh.py self  COUNT SEED              no program: the simulator against what the prose says of every run
     python3 tools/fresh.py show  texts|runs SEED         writes one input
 
@@ -635,7 +635,7 @@ def a_run(r):
 
 MAKERS = {"texts": a_text, "runs": a_run}
 SIMULATED = {"texts": simulator.edfi, "runs": simulator.trace}
-PROGRAMS = {"texts": "target/bin/edfi", "runs": "target/bin/trace"}
+PROGRAMS = {"texts": "crates/edfi/out/edfi", "runs": "crates/trace/out/trace"}
 
 
 def make(kind, seed):

@@ -2,7 +2,7 @@
 ghost use Rattle.queue.specs.Entries.{released_order};
 ghost use Rattle.std.proofs.Common.{arith};
 ghost use Rattle.std.proofs.lemmas.Bool.Decides.{nat_tests};
-ghost use Rattle.queue.specs.ReleasedEntryLemmas.{by_trans, by_total, last_trans, last_total, same};
+ghost use Rattle.queue.specs.ReleasedLemmas.{by_trans, by_total, last_trans, last_total, same};
 
 use super::QueueEntry;
 

@@ -1,3 +1,4 @@
+-- Why released entries are in a total order: the steps of the proof that stands in the entry's own `impl`. Nothing here has to be believed.
 use Rattle.std.proofs.Common.{arith, ap, ◌∙◌}
 use Rattle.std.specs.Prelude.{◌≡◌, ℕ, Bool, true, false, nat_lt}
 use Rattle.std.proofs.lemmas.Bool.Decides.{nat_tests}
