@@ -15,14 +15,14 @@ refusal_number (NotInnermost grant) = 20
 refusal_number NotOpen = 21
 refusal_number StillOpen = 22
 
--- what is returned: the number, and for an instant past what is due the instant that is due
-abbrev pub returned : Refusal → List ℕ
-returned Past = 14 ∷ []
-returned Far = 15 ∷ []
-returned (BeyondDue due) = 16 ∷ due ∷ []
-returned NothingRuns = 17 ∷ []
-returned NotEnterable = 18 ∷ []
-returned TooManyEntries = 19 ∷ []
-returned (NotInnermost grant) = 20 ∷ []
-returned NotOpen = 21 ∷ []
-returned StillOpen = 22 ∷ []
+-- the numbers that a refusal is written as: its own, and for an instant past what is due the instant that is due. A grant that is handed back is not written
+abbrev pub shown_numbers : Refusal → List ℕ
+shown_numbers Past = 14 ∷ []
+shown_numbers Far = 15 ∷ []
+shown_numbers (BeyondDue due) = 16 ∷ due ∷ []
+shown_numbers NothingRuns = 17 ∷ []
+shown_numbers NotEnterable = 18 ∷ []
+shown_numbers TooManyEntries = 19 ∷ []
+shown_numbers (NotInnermost grant) = 20 ∷ []
+shown_numbers NotOpen = 21 ∷ []
+shown_numbers StillOpen = 22 ∷ []

@@ -1,6 +1,6 @@
 //! What a run is made of: calls, and what each of them answers.
 ghost use Rattle.std.specs.Prelude.{◌≡◌, Some};
-ghost use Rattle.machine.specs.Answer.{refusal_number, returned};
+ghost use Rattle.machine.specs.Answer.{refusal_number, shown_numbers};
 ghost use Rattle.table.specs.Answer.{spaced};
 
 use std::fmt;
@@ -68,10 +68,9 @@ impl Refusal {
     }
 }
 
-/// The numbers that a refusal returns, one space apart: its own, then the instant that is due where it has one. A grant that is handed back shows
-/// no number.
+/// The number of a refusal, and behind it, one space apart, the instant that is due where it has one. A grant that is handed back is not written.
 impl fmt::Display for Refusal {
-    ghost output = { λ r. Some (spaced (returned r)) };
+    ghost output = { λ r. Some (spaced (shown_numbers r)) };
 
     fn fmt<W: fmt::Write>(&self, f: &mut fmt::Formatter<W>) -> fmt::Result {
         let number = self.number();

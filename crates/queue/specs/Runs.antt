@@ -84,5 +84,5 @@ pub record Alike {E : Type 0} (o : Order E) (capacity : ℕ) (calls : List (Call
 
 -- whether two queues can be compared: both empty, of one capacity, with one place for each answer
 abbrev pub comparable : {E : Type 0} → List E → List E → ℕ → ℕ → ℕ → ℕ → ℕ → Bool
-comparable xs ys c d calls from-p from-q =
-    (length xs == 0 && length ys == 0) && (c == d && (from-p == calls && from-q == calls))
+comparable xs ys c d calls from_p from_q =
+    (length xs == 0 && length ys == 0) && (c == d && (from_p == calls && from_q == calls))

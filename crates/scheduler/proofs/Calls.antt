@@ -9,7 +9,7 @@ use Rattle.queue.specs.declared.released.Released.{Released}
 use Rattle.queue.specs.Order.{insert_sorted}
 use Rattle.queue.specs.Entries.{waiting_before}
 use Rattle.admission.proofs.Nesting.{Inside, nesting_within}
-use Rattle.admission.proofs.Nesting.{innermost_of as innermostNumber}
+use Rattle.admission.proofs.Nesting.{innermost_of as innermost_section}
 use Rattle.machine.specs.declared.call.Call.{Call}
 use Rattle.machine.specs.declared.call.Call.TheVariants.{Advance, Enter, Finish}
 use Rattle.machine.specs.declared.call.Answer.TheVariants.{Granted, Running}
@@ -188,7 +188,7 @@ same_place_lem (Some x) (Some y) e = ap Some (eqb-true x y e)
 abbrev numbers : List Open → List ℕ
 numbers os = map (λ (o : Open). o.section) os
 
-innermost_number : (os : List Open) → innermost os ≡ innermostNumber (numbers os)
+innermost_number : (os : List Open) → innermost os ≡ innermost_section (numbers os)
 innermost_number [] = refl
 innermost_number (o ∷ os) = refl
 

@@ -6,7 +6,7 @@ use Rattle.machine.specs.State.{Table, State, start}
 use Rattle.machine.specs.Step.{step}
 use Rattle.machine.specs.Run.{history_from}
 use Rattle.machine.specs.Worked.{answers_of}
-use Rattle.machine.specs.Run.{state_from as machineFrom}
+use Rattle.machine.specs.Run.{state_from as machine_from}
 use Rattle.admission.specs.Verdict.{Admitted}
 use Rattle.machine.proofs.Promised.{every_run}
 use Rattle.scheduler.specs.declared.answer.Answer.{Answer}
@@ -59,7 +59,7 @@ module _ (k : Table) where
   live_answers [] s = refl
   live_answers (c ∷ cs) s = ap (λ (l : List Answer). told (step k c s).answer ∷ l) (live_answers cs (step k c s).state)
 
-  live_state : (cs : List Call) (s : State) → state_from true k cs s ≡ machineFrom k s cs
+  live_state : (cs : List Call) (s : State) → state_from true k cs s ≡ machine_from k s cs
   live_state [] s = refl
   live_state (c ∷ cs) s = live_state cs (step k c s).state
 

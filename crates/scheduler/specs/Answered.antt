@@ -4,7 +4,7 @@ use Rattle.std.specs.Prelude.{ℕ, List, [], ◌∷◌}
 use Rattle.machine.specs.declared.call.Answer.{Answer as MachineAnswer}
 use Rattle.machine.specs.declared.call.Answer.TheVariants.{Advanced as Advances, Granted as Grants, Running as Runs, Refused as Refuses}
 use Rattle.machine.specs.Answer.{refusal_number as machine_number}
-use Rattle.machine.specs.Answer.{returned as machine_returned}
+use Rattle.machine.specs.Answer.{shown_numbers as machine_numbers}
 use Rattle.scheduler.specs.declared.answer.Answer.{Answer}
 use Rattle.scheduler.specs.declared.answer.Answer.TheVariants.{Advanced, Granted, Running, Refused}
 use Rattle.scheduler.specs.declared.answer.Refusal.{Refusal}
@@ -17,11 +17,11 @@ told (Grants grant) = Granted grant
 told (Runs task) = Running task
 told (Refuses refusal) = Refused (Machine refusal)
 
--- the number of a refusal, and what is returned for it
+-- the number of a refusal, and the numbers that it is written as
 abbrev pub refusal_number : Refusal → ℕ
 refusal_number Shut = 13
 refusal_number (Machine refusal) = machine_number refusal
 
-abbrev pub returned : Refusal → List ℕ
-returned Shut = 13 ∷ []
-returned (Machine refusal) = machine_returned refusal
+abbrev pub shown_numbers : Refusal → List ℕ
+shown_numbers Shut = 13 ∷ []
+shown_numbers (Machine refusal) = machine_numbers refusal

@@ -1,7 +1,7 @@
 //! What a core answers to calls and questions: the machine's answers, and that the core is shut.
 ghost use Rattle.std.specs.Prelude.{◌≡◌, Some};
 ghost use Rattle.table.specs.Answer.{spaced};
-ghost use Rattle.scheduler.specs.Answered.{refusal_number, returned};
+ghost use Rattle.scheduler.specs.Answered.{refusal_number, shown_numbers};
 
 use machine::call;
 use std::fmt;
@@ -27,10 +27,9 @@ impl Refusal {
     }
 }
 
-/// The numbers that a refusal returns, one space apart: its own, then the instant that is due where it has one. A grant that is handed back shows
-/// no number.
+/// The number of a refusal, and behind it, one space apart, the instant that is due where it has one. A grant that is handed back is not written.
 impl fmt::Display for Refusal {
-    ghost output = { λ r. Some (spaced (returned r)) };
+    ghost output = { λ r. Some (spaced (shown_numbers r)) };
 
     fn fmt<W: fmt::Write>(&self, f: &mut fmt::Formatter<W>) -> fmt::Result {
         let number = self.number();

@@ -3,6 +3,7 @@ ghost use Rattle.std.specs.Prelude.{◌≡◌, ◌≤◌, true, false, ◌++◌,
 ghost use Rattle.admission.specs.Passed.{Passed};
 ghost use Rattle.queue.specs.Entries.{waiting_order, released_order};
 ghost use Rattle.scheduler.specs.View.{table_of};
+ghost use Rattle.scheduler.specs.Moves.{fresh};
 ghost use Rattle.scheduler.specs.Fitted.{view, Fitted, pass_table, ready};
 ghost use Rattle.scheduler.specs.Calls.{answer_of, state_after};
 ghost use Rattle.scheduler.specs.Replayed.{answers_from, state_from, Ran, AllShut};
@@ -32,6 +33,7 @@ fn make<W: Queue<Entry = Waiting>, R: Queue<Entry = Released>>(
     ensures fitted { Fitted W.Queue R.Queue core.new }
     ensures live { core.new.live ≡ core.old.live }
     ensures table { core.new.records ≡ core.old.records }
+    ensures shut { core.old.live ≡ false → core.new ≡ core.old }
     ensures value { result ≡ answer_of core.old.live (table_of core.old.records) call (view W.Queue R.Queue core.old) }
     ensures after { view W.Queue R.Queue core.new ≡ state_after core.old.live (table_of core.old.records) call (view W.Queue R.Queue core.old) }
 {
@@ -72,6 +74,7 @@ fn run<W: Queue<Entry = Waiting>, R: Queue<Entry = Released>>(
     ensures fitted { Fitted W.Queue R.Queue core.new }
     ensures live { core.new.live ≡ core.old.live }
     ensures table { core.new.records ≡ core.old.records }
+    ensures shut { core.old.live ≡ false → core.new ≡ core.old }
     ensures value { answers.new ≡ answers_from core.old.live (table_of core.old.records) calls.now (view W.Queue R.Queue core.old) ++ drop (length calls.now) answers.old }
     ensures after { view W.Queue R.Queue core.new ≡ state_from core.old.live (table_of core.old.records) calls.now (view W.Queue R.Queue core.old) }
 {
@@ -82,11 +85,11 @@ fn run<W: Queue<Entry = Waiting>, R: Queue<Entry = Released>>(
 
 /// Makes a core from a pass and two queues, makes the calls on it in their order, writes down what each answers, and gives the core back.
 ///
-/// Of the grants of its own entries only the numbers in the answers are left: a section that is open when replay ends stays open until its job's deadline.
+/// Of the grants of its own entries only the numbers in the answers are left: a section that is open when replay ends stays open until its job's deadline, unless `leave` is given a grant of another core with the same numbers.
 ///
 /// Whatever the calls and whichever the queues: every answer, and the state after, is that of the machine given the same calls alone, and at the
 /// start and after each call everything that is promised of runs holds of it. Where the queues cannot serve the table, every answer is that the core is
-/// shut, and the queues' lists are as they were. Where there is less room than calls, no core is made, and what was given is handed back.
+/// shut, and the core holds the queues as they were. Where there is less room than calls, no core is made, and what was given is handed back.
 pub fn replay<'a, W: Queue<Entry = Waiting>, R: Queue<Entry = Released>>(
     pass: Pass<'a>,
     waiting: W,
@@ -102,7 +105,7 @@ pub fn replay<'a, W: Queue<Entry = Waiting>, R: Queue<Entry = Released>>(
     ensures table { IfOk result (λ core. table_of core.records ≡ pass_table pass.entry) }
     ensures live { IfOk result (λ core. core.live ≡ ready (pass_table pass.entry) (W.list waiting) (R.list released) (W.capacity waiting) (R.capacity released)) }
     ensures ran { IfOk result (λ core. core.live ≡ true → Ran (pass_table pass.entry) calls.now answers.new answers.old (view W.Queue R.Queue core)) }
-    ensures shut { IfOk result (λ core. core.live ≡ false → AllShut calls.now answers.new answers.old × (W.list core.waiting ≡ W.list waiting) × (R.list core.released ≡ R.list released)) }
+    ensures shut { IfOk result (λ core. core.live ≡ false → AllShut calls.now answers.new answers.old × (core.inner ≡ fresh) × (core.waiting ≡ waiting) × (core.released ≡ released)) }
 {
     if answers.len() < calls.len() {
         return Err(NoRoom {

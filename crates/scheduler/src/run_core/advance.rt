@@ -1,5 +1,5 @@
 //! Advance, and what is due.
-ghost use Rattle.std.specs.Prelude.{◌≡◌};
+ghost use Rattle.std.specs.Prelude.{◌≡◌, false, IfErr};
 ghost use Rattle.machine.specs.State.{sooner, first_deadline, first_release, due};
 ghost use Rattle.machine.specs.declared.call.Call.TheVariants.{Advance};
 ghost use Rattle.scheduler.specs.Moves.{refused_at};
@@ -89,6 +89,8 @@ impl<W: Queue<Entry = Waiting>, R: Queue<Entry = Released>> Core<W, R> {
         ensures fitted { Fitted W.Queue R.Queue self.new }
         ensures live { self.new.live ≡ self.old.live }
         ensures table { self.new.records ≡ self.old.records }
+        ensures shut { self.old.live ≡ false → self.new ≡ self.old }
+        ensures refused { IfErr result (λ r. self.new ≡ self.old) }
         ensures value { of_advance result ≡ answer_of self.old.live (table_of self.old.records) (Advance t) (view W.Queue R.Queue self.old) }
         ensures after { view W.Queue R.Queue self.new ≡ state_after self.old.live (table_of self.old.records) (Advance t) (view W.Queue R.Queue self.old) }
     {

@@ -1,5 +1,5 @@
 //! Enter.
-ghost use Rattle.std.specs.Prelude.{◌≡◌};
+ghost use Rattle.std.specs.Prelude.{◌≡◌, false, IfErr};
 ghost use Rattle.machine.specs.declared.call.Call.TheVariants.{Enter};
 ghost use Rattle.scheduler.specs.Moves.{enter_refusal};
 ghost use Rattle.scheduler.specs.View.{table_of};
@@ -38,6 +38,8 @@ impl<W: Queue<Entry = Waiting>, R: Queue<Entry = Released>> Core<W, R> {
         ensures fitted { Fitted W.Queue R.Queue self.new }
         ensures live { self.new.live ≡ self.old.live }
         ensures table { self.new.records ≡ self.old.records }
+        ensures shut { self.old.live ≡ false → self.new ≡ self.old }
+        ensures refused { IfErr result (λ r. self.new ≡ self.old) }
         ensures value { of_enter result ≡ answer_of self.old.live (table_of self.old.records) (Enter section) (view W.Queue R.Queue self.old) }
         ensures after { view W.Queue R.Queue self.new ≡ state_after self.old.live (table_of self.old.records) (Enter section) (view W.Queue R.Queue self.old) }
     {

@@ -1,5 +1,5 @@
 //! Finish.
-ghost use Rattle.std.specs.Prelude.{◌≡◌};
+ghost use Rattle.std.specs.Prelude.{◌≡◌, false, IfErr};
 ghost use Rattle.machine.specs.declared.call.Call.TheVariants.{Finish};
 ghost use Rattle.scheduler.specs.Moves.{finish_refusal};
 ghost use Rattle.scheduler.specs.View.{table_of};
@@ -32,6 +32,8 @@ impl<W: Queue<Entry = Waiting>, R: Queue<Entry = Released>> Core<W, R> {
         ensures fitted { Fitted W.Queue R.Queue self.new }
         ensures live { self.new.live ≡ self.old.live }
         ensures table { self.new.records ≡ self.old.records }
+        ensures shut { self.old.live ≡ false → self.new ≡ self.old }
+        ensures refused { IfErr result (λ r. self.new ≡ self.old) }
         ensures value { of_finish result ≡ answer_of self.old.live (table_of self.old.records) Finish (view W.Queue R.Queue self.old) }
         ensures after { view W.Queue R.Queue self.new ≡ state_after self.old.live (table_of self.old.records) Finish (view W.Queue R.Queue self.old) }
     {

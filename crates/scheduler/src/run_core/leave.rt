@@ -1,5 +1,5 @@
 //! Leave.
-ghost use Rattle.std.specs.Prelude.{◌≡◌};
+ghost use Rattle.std.specs.Prelude.{◌≡◌, false, IfErr};
 ghost use Rattle.machine.specs.declared.call.Call.TheVariants.{Leave};
 ghost use Rattle.scheduler.specs.Moves.{opened_for};
 ghost use Rattle.scheduler.specs.View.{table_of};
@@ -35,6 +35,8 @@ impl<W: Queue<Entry = Waiting>, R: Queue<Entry = Released>> Core<W, R> {
         ensures fitted { Fitted W.Queue R.Queue self.new }
         ensures live { self.new.live ≡ self.old.live }
         ensures table { self.new.records ≡ self.old.records }
+        ensures shut { self.old.live ≡ false → self.new ≡ self.old }
+        ensures refused { IfErr result (λ r. self.new ≡ self.old) }
         ensures value { of_leave result ≡ answer_of self.old.live (table_of self.old.records) (Leave grant.ticket) (view W.Queue R.Queue self.old) }
         ensures back { HandsBack grant result }
         ensures after { view W.Queue R.Queue self.new ≡ state_after self.old.live (table_of self.old.records) (Leave grant.ticket) (view W.Queue R.Queue self.old) }

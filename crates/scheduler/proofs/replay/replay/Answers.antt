@@ -1,9 +1,9 @@
 use Rattle.std.proofs.Common.{sym, ap, ◌∙◌}
 use Rattle.std.proofs.lemmas.Bool.{le-leb}
-use Rattle.machine.specs.State.{State}
+use Rattle.scheduler.specs.declared.run_core.Core.{Core}
 use Rattle.scheduler.specs.View.{table_of}
 use Rattle.scheduler.specs.Fitted.{view, pass_table}
-use Rattle.scheduler.proofs.Replays.{ran, all_shut, stays}
+use Rattle.scheduler.proofs.Replays.{ran, all_shut}
 use Rattle.scheduler.proofs.replay.replay.Goals as goal
 
 pub returns : goal.returns
@@ -30,9 +30,10 @@ returns g c =
           ran live k cs s answers old end done.value done.after (pass_table pass) pass.idle c.requires.pass from new.table (new.started from);
       shut = λ off.
           let from = sym done.live ∙ off in
-          let same = stays live k cs s end done.after from in (
+          let kept = done.shut from in (
             all_shut live k cs s answers old done.value from,
-            ap (λ (x : State). x.waiting) same ∙ ap g.W.Queue.list (new.same from).0,
-            ap (λ (x : State). x.released) same ∙ ap g.R.Queue.list (new.same from).1,
+            ap (λ (x : Core _ _). x.inner) kept ∙ new.own,
+            ap (λ (x : Core _ _). x.waiting) kept ∙ (new.same from).0,
+            ap (λ (x : Core _ _). x.released) kept ∙ (new.same from).1,
           );
     }

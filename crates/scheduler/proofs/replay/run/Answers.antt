@@ -30,6 +30,7 @@ loop-i-preserved g c =
       ap (λ (l : List Answer). set l i c.make.result) inv.4
           ∙ answers_more core.live k cs i (Advance 0) s old c.make.result c.loop-i-test.true room
           (made.value ∙ at_same (λ (b : Bool) (t : Table) (x : State). answer_of b t call x) inv.1 inv.2 inv.3),
+      λ e. made.shut (inv.1 ∙ e) ∙ inv.5 e,
     )
 
 pub returns : goal.returns
@@ -46,6 +47,7 @@ returns g c =
       fitted = inv.0;
       live = inv.1;
       table = inv.2;
+      shut = inv.5;
       value = inv.4 ∙ ap (λ (l : List Call). answers_from core.live k l s ++ drop i old) all ∙ ap (λ n. answers_from core.live k cs s ++ drop n old) (omega arith);
       after = inv.3 ∙ ap (λ (l : List Call). state_from core.live k l s) all;
     }

@@ -1,4 +1,4 @@
-use Rattle.std.proofs.Common.{◌≡◌, ◌++◌, take, drop}
+use Rattle.std.proofs.Common.{◌≡◌, false, ◌++◌, take, drop}
 use Rattle.scheduler.specs.View.{table_of}
 use Rattle.scheduler.specs.Fitted.{view, Fitted}
 use Rattle.scheduler.specs.Replayed.{answers_from, state_from}
@@ -14,3 +14,4 @@ invariant-loop-i g l =
     × (l.core.records ≡ l.initial.core.records)
     × (see l.core ≡ state_from live k (take l.i l.calls) (see l.initial.core))
     × (l.answers ≡ answers_from live k (take l.i l.calls) (see l.initial.core) ++ drop l.i l.initial.answers)
+    × (live ≡ false → l.core ≡ l.initial.core)

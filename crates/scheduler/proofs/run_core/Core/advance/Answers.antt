@@ -1,3 +1,4 @@
+use Rattle.std.proofs.lemmas.Bool.{false≢true}
 use Rattle.std.proofs.Common.{◌≡◌, ◌+◌, ◌-◌, Some, None, sym, refl, ap, ◌∙◌, arith}
 use Rattle.machine.specs.declared.call.Call.TheVariants.{Advance}
 use Rattle.machine.specs.State.{State, running}
@@ -24,6 +25,8 @@ returns-in-Some g c =
       fitted = c.requires;
       live = refl;
       table = refl;
+      shut = λ e. absurd (false≢true (sym e ∙ c.if-not-self.false));
+      refused = refl;
       value = sym (live_answer self.live (table_of self.records) call s c.if-not-self.false (refused s c.in-Some.refusal) is);
       after = sym (live_after self.live (table_of self.records) call s c.if-not-self.false (refused s c.in-Some.refusal) is);
     }
@@ -67,6 +70,8 @@ returns g c =
       fitted = c.select.ensures.fitted;
       live = c.select.ensures.live ∙ sym c.if-not-self.false;
       table = c.select.ensures.records ∙ r3;
+      shut = λ e. absurd (false≢true (sym e ∙ c.if-not-self.false));
+      refused = tt;
       value = says ∙ ap (λ (x : State). told (advanced_answer s x)) reached ∙ sym (live_answer self.live k (Advance t) s c.if-not-self.false (passed k t s) is);
       after = reached ∙ sym (live_after self.live k (Advance t) s c.if-not-self.false (passed k t s) is);
     }

@@ -1,3 +1,4 @@
+use Rattle.std.proofs.lemmas.Bool.{false≢true}
 use Rattle.std.proofs.Common.{◌≡◌, ℕ, ◌-◌, Option, sym, refl, ap, ◌∙◌, subst, arith, length-set}
 use Rattle.machine.specs.declared.call.Call.TheVariants.{Enter}
 use Rattle.machine.specs.declared.call.Refusal.{Refusal}
@@ -28,6 +29,8 @@ returns-in-Some g c =
       fitted = c.requires;
       live = refl;
       table = refl;
+      shut = λ e. absurd (false≢true (sym e ∙ c.if-not-self.false));
+      refused = refl;
       value = sym (live_answer self.live (table_of self.records) call s c.if-not-self.false (refused s c.in-Some.refusal) is);
       after = sym (live_after self.live (table_of self.records) call s c.if-not-self.false (refused s c.in-Some.refusal) is);
     }
@@ -73,6 +76,8 @@ returns g c =
       };
       live = refl;
       table = refl;
+      shut = λ e. absurd (false≢true (sym e ∙ c.if-not-self.false));
+      refused = tt;
       value =
           ap (λ (n : ℕ). Granted (record { task = (top_of i).task; section = x; serial = n })) c.enter-serial.ensures.serial
           ∙ sym (live_answer self.live (table_of self.records) (Enter x) s c.if-not-self.false o is);

@@ -1,3 +1,4 @@
+use Rattle.std.proofs.lemmas.Bool.{false≢true}
 use Rattle.std.proofs.Common.{◌≡◌, ◌-◌, List, Option, sym, refl, ap, ◌∙◌, subst, arith}
 use Rattle.queue.specs.declared.waiting.Waiting.{Waiting}
 use Rattle.queue.specs.Order.{insert_sorted}
@@ -30,6 +31,8 @@ returns-in-Some g c =
       fitted = c.requires;
       live = refl;
       table = refl;
+      shut = λ e. absurd (false≢true (sym e ∙ c.if-not-self.false));
+      refused = refl;
       value = sym (live_answer self.live (table_of self.records) Finish s c.if-not-self.false (refused s c.in-Some.refusal) is);
       after = sym (live_after self.live (table_of self.records) Finish s c.if-not-self.false (refused s c.in-Some.refusal) is);
     }
@@ -95,6 +98,8 @@ returns g c =
       fitted = c.select.ensures.fitted;
       live = c.select.ensures.live ∙ sym c.if-not-self.false;
       table = c.select.ensures.records;
+      shut = λ e. absurd (false≢true (sym e ∙ c.if-not-self.false));
+      refused = tt;
       value =
           ap Running (c.running.ensures ∙ running_over end.inner (omega (arith, end.tall.0, end.tall.2)) ∙ ap (λ (x : State). running x.stack) reached)
           ∙ sym (live_answer self.live k Finish s c.if-not-self.false o is);

@@ -1,3 +1,4 @@
+use Rattle.std.proofs.lemmas.Bool.{false≢true}
 use Rattle.std.proofs.Common.{◌≡◌, ◌-◌, ◌<◌, sym, refl, ap, ◌∙◌, subst, arith}
 use Rattle.std.proofs.lemmas.Bool.{cond-true, cond-false}
 use Rattle.machine.specs.declared.call.Call.TheVariants.{Leave}
@@ -34,6 +35,8 @@ returns-then-is_open g c =
       fitted = c.requires;
       live = refl;
       table = refl;
+      shut = λ e. absurd (false≢true (sym e ∙ c.if-not-self.false));
+      refused = refl;
       value = sym (live_answer self.live (table_of self.records) (Leave ticket) s c.if-not-self.false (refused s (NotInnermost ticket)) is);
       back = refl;
       after = sym (live_after self.live (table_of self.records) (Leave ticket) s c.if-not-self.false (refused s (NotInnermost ticket)) is);
@@ -54,6 +57,8 @@ returns-then-not-is_innermost g c =
       fitted = c.requires;
       live = refl;
       table = refl;
+      shut = λ e. absurd (false≢true (sym e ∙ c.if-not-self.false));
+      refused = refl;
       value = sym (live_answer self.live (table_of self.records) (Leave ticket) s c.if-not-self.false (refused s NotOpen) is);
       back = tt;
       after = sym (live_after self.live (table_of self.records) (Leave ticket) s c.if-not-self.false (refused s NotOpen) is);
@@ -114,6 +119,8 @@ returns g c =
       fitted = c.select.ensures.fitted;
       live = c.select.ensures.live ∙ sym c.if-not-self.false;
       table = c.select.ensures.records;
+      shut = λ e. absurd (false≢true (sym e ∙ c.if-not-self.false));
+      refused = tt;
       value =
           ap Running (c.running.ensures ∙ running_over end.inner (omega (arith, end.tall.0, end.tall.2)) ∙ ap (λ (x : State). running x.stack) reached)
           ∙ sym (live_answer self.live k (Leave ticket) s c.if-not-self.false o is);
