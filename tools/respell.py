@@ -1,12 +1,16 @@
 #!/usr/bin/env python3
 """Brings the repository's own definitions and lemmas to snake case, once, after the kit's port.py.
 
-Run at the top: python3 tools/respell.py. A name in lower camel case, or with dashes, becomes snake case; a fact with dashes becomes
-upper camel case. A dash stays only behind the name of a list function that a lemma is about, as in `length-insert`. Where a lemma would
-fall together with a definition, the lemma gets `_lem`. Goals and steps that the check names, and names of the library, are left alone.
+Run at the top: python3 tools/respell.py. A name in lower camel case, or with dashes, becomes snake case, the dashes underscores; a fact
+with dashes becomes upper camel case, and two capitals with a dash between them small letters. A dash stays only behind `length`, `sum`,
+`take` and `drop` at the start of a lemma's name, as in `length-insert`. Where a lemma would fall together with a definition, the lemma
+gets `_lem`. Goals and steps that the check names, names of the library, and functions of src/ are left alone.
+
+It is done: run on what it has made it would find names that fall together, and stops before it writes anything.
 """
 import glob
 import re
+import sys
 
 IDENT = r"[^\s(){}\[\].,;:λ→×∷\"`]+"
 TOKEN = re.compile(r"[^\s(){}\[\].,;:λ→×\"`]+|[\s(){}\[\].,;:λ→×\"`]")
@@ -81,6 +85,8 @@ def respell(path, names, fields):
             code, comment = "", line
         tokens = TOKEN.findall(code)
         for i, token in enumerate(tokens):
+            if path.endswith(".rt") and token in LEMMAS and re.fullmatch(r"[a-z0-9_]+", token):
+                continue                                  # the name of a function of src/ as well
             if token in names and token not in foreign and spelled(token) != token:
                 if i > 0 and tokens[i - 1] == "." and token not in fields:
                     continue
@@ -103,9 +109,9 @@ def main():
     together = {}
     for n in names:
         together.setdefault(spelled(n), set()).add(n)
-    for new, olds in sorted(together.items()):
-        if len(olds) > 1:
-            print("falls together:", new, sorted(olds))
+    clash = {new: sorted(olds) for new, olds in together.items() if len(olds) > 1}
+    if clash:
+        sys.exit("\n".join(f"falls together: {new} {olds}" for new, olds in sorted(clash.items())))
     rt = sorted(p for p in glob.glob("crates/*/src/**/*.rt", recursive=True))
     md = sorted(glob.glob("*.md") + glob.glob("docs/*.md"))
     changed = sum(respell(p, ours, fields) for p in antt + rt + md)
