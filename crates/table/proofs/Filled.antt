@@ -1,16 +1,18 @@
--- A list that is filled with the values of a function, from its front.
-use Rattle.std.proofs.Common.{◌≡◌, ℕ, ◌+◌, ◌<◌, ◌≤◌, List, [], ◌∷◌, ◌++◌, map, length, take, set, sym, ap, ◌∙◌, arith}
+-- A list that `from_fn` makes with a closure that computes a function.
+use Rattle.std.proofs.Common.{◌≡◌, ℕ, zero, suc, ◌+◌, List, ◌∷◌, map, length, drop, ap, ◌∙◌, subst, arith}
 use Rattle.std.specs.List.{range_with_len}
-use Rattle.std.proofs.lemmas.List.{take_more_set, take_all}
-use Rattle.std.proofs.lemmas.List.FromFn.{map-range_with_len_more}
+use Rattle.std.specs.Fn.{Mut, Called}
+use Rattle.std.specs.Array.{IsFromFnResultFrom, IsFromFnResult}
+use Rattle.std.proofs.lemmas.List.{drop_more, drop_all}
 
--- the first i places hold the values of f
-abbrev pub Front : {X : Type 0} → (ℕ → X) → List X → ℕ → Type 0
-Front f xs i = take i xs ≡ map f (range_with_len 0 i)
+module _ {F B : Type 0} (g : Mut F (ℕ × Unit {0}) B) (f : F) (h : ℕ → B) (computes : (k : ℕ) (y : B) (q : F) → Called g f (k, tt) y q → (q ≡ f) × (y ≡ h k)) (ys : List B) where
+  made_from : (i n : ℕ) → i + n ≡ length ys → IsFromFnResultFrom g f ys i n → drop i ys ≡ map h (range_with_len i n)
+  made_from i zero long each = drop_all i ys (omega arith)
+  made_from i (suc n) long each =
+      let y = each.1 in
+      let told = computes i y each.0 each.3 in
+      drop_more ys i y (omega arith) ∙ ap (λ x. x ∷ drop (i + 1) ys) (each.2.0 ∙ told.1)
+      ∙ ap (λ l. h i ∷ l) (made_from (i + 1) n (omega arith) (subst (λ p. IsFromFnResultFrom g p ys (i + 1) n) told.0 each.4))
 
-pub front_more : {X : Type 0} (f : ℕ → X) (xs : List X) (i : ℕ) (y : X) → i < length xs → y ≡ f i → Front f xs i → Front f (set xs i y) (i + 1)
-front_more f xs i y within is h =
-    take_more_set xs i y within ∙ ap (λ l. l ++ (y ∷ [])) h ∙ ap (λ x. map f (range_with_len 0 i) ++ (x ∷ [])) is ∙ sym (map-range_with_len_more f 0 i i (omega arith))
-
-pub front_all : {X : Type 0} (f : ℕ → X) (xs : List X) (i n : ℕ) → i ≡ n → length xs ≤ n → Front f xs i → xs ≡ map f (range_with_len 0 n)
-front_all f xs i n e short h = sym (take_all i xs (omega arith)) ∙ h ∙ ap (λ k. map f (range_with_len 0 k)) e
+  pub made_is : (n : ℕ) → IsFromFnResult g f ys n → ys ≡ map h (range_with_len 0 n)
+  made_is n made = made_from 0 n (omega (arith, made.long)) made.each

@@ -1,39 +1,46 @@
--- The least of several levels, taken one by one.
-use Rattle.std.proofs.Common.{◌≡◌, ℕ, ◌+◌, ◌<◌, Bool, true, false, cond, List, length, get_or, drop, Some, None, Option, sym, refl, ap, ◌∙◌, arith}
-use Rattle.std.proofs.lemmas.List.{drop_more}
+-- The least of several levels, as the least of those that are there.
+use Rattle.std.proofs.Common.{◌≡◌, ℕ, ◌+◌, min, Bool, true, false, cond, List, [], ◌∷◌, length, Some, None, Option, sym, refl, ap, ◌∙◌, arith}
+use Rattle.std.specs.List.{fold, reduce, filter, filter_map, cons_option, range_with_len, zip}
 use Rattle.table.specs.declared.records.TaskRecord.{TaskRecord}
 use Rattle.table.specs.declared.records.SectionRecord.{SectionRecord}
 use Rattle.table.specs.Level.{names, deadline_of, lesser, letter_level, least_level}
 
-pub lesser_none : (a : Option ℕ) → lesser a None ≡ a
-lesser_none None = refl
-lesser_none (Some x) = refl
+fold_min : (x y : ℕ) (xs : List ℕ) → fold min (min x y) xs ≡ min x (fold min y xs)
+fold_min x y [] = refl
+fold_min x y (z ∷ xs) = ap (λ a. fold min a xs) (let e : min (min x y) z ≡ min x (min y z) = omega arith in e) ∙ fold_min x (min y z) xs
 
-pub lesser_assoc : (a b c : Option ℕ) → lesser (lesser a b) c ≡ lesser a (lesser b c)
-lesser_assoc None b c = refl
-lesser_assoc (Some x) None c = refl
-lesser_assoc (Some x) (Some y) None = refl
-lesser_assoc (Some x) (Some y) (Some z) = ap Some (omega arith)
+-- one more number
+reduce_more : (x : ℕ) (xs : List ℕ) → reduce min (x ∷ xs) ≡ lesser (Some x) (reduce min xs)
+reduce_more x [] = refl
+reduce_more x (y ∷ xs) = ap Some (fold_min x y xs)
 
--- one more level is looked at, or passed over
-pub look : (a l rest : Option ℕ) (b : Bool) → b ≡ true → lesser (lesser a l) rest ≡ lesser a (lesser (cond b l None) rest)
-look a l rest b e = lesser_assoc a l rest ∙ ap (λ x. lesser a (lesser (cond x l None) rest)) (sym e)
+-- one more level, if there is one
+level_more : (o : Option ℕ) (xs : List ℕ) → reduce min (cons_option o xs) ≡ lesser o (reduce min xs)
+level_more None xs = refl
+level_more (Some x) xs = reduce_more x xs
 
-pub pass : (a l rest : Option ℕ) (b : Bool) → b ≡ false → lesser a rest ≡ lesser a (lesser (cond b l None) rest)
-pass a l rest b e = ap (λ x. lesser a (lesser (cond x l None) rest)) (sym e)
+-- one more thing, which passes the test and has a level, or not
+module _ {X : Type 0} (test : X → Bool) (level : X → Option ℕ) where
+  by_test : (b : Bool) (x : X) (xs : List X) → reduce min (filter_map level (cond b (x ∷ xs) xs)) ≡ lesser (cond b (level x) None) (reduce min (filter_map level xs))
+  by_test true x xs = level_more (level x) (filter_map level xs)
+  by_test false x xs = refl
 
--- one more section
-module _ (tasks : List TaskRecord) (ss : List SectionRecord) (i r : ℕ) (d : SectionRecord) (a : Option ℕ) (within : i < length ss) where
-  pub letter_look : names (get_or ss i d) r ≡ true → lesser (lesser a (deadline_of tasks (get_or ss i d).task)) (letter_level tasks (drop (i + 1) ss) r) ≡ lesser a (letter_level tasks (drop i ss) r)
-  letter_look e = look a (deadline_of tasks (get_or ss i d).task) _ (names (get_or ss i d) r) e ∙ ap (λ l. lesser a (letter_level tasks l r)) (sym (drop_more ss i d within))
+  pub least_more : (x : X) (xs : List X) → reduce min (filter_map level (filter test (x ∷ xs))) ≡ lesser (cond (test x) (level x) None) (reduce min (filter_map level (filter test xs)))
+  least_more x xs = by_test (test x) x (filter test xs)
 
-  pub letter_pass : names (get_or ss i d) r ≡ false → lesser a (letter_level tasks (drop (i + 1) ss) r) ≡ lesser a (letter_level tasks (drop i ss) r)
-  letter_pass e = pass a (deadline_of tasks (get_or ss i d).task) _ (names (get_or ss i d) r) e ∙ ap (λ l. lesser a (letter_level tasks l r)) (sym (drop_more ss i d within))
+pub letter_is : (tasks : List TaskRecord) (r : ℕ) (ss : List SectionRecord) → reduce min (filter_map (λ (s : SectionRecord). deadline_of tasks s.task) (filter (λ s. names s r) ss)) ≡ letter_level tasks ss r
+letter_is tasks r [] = refl
+letter_is tasks r (s ∷ ss) =
+    least_more (λ (x : SectionRecord). names x r) (λ (x : SectionRecord). deadline_of tasks x.task) s ss
+    ∙ ap (lesser (cond (names s r) (deadline_of tasks s.task) None)) (letter_is tasks r ss)
 
--- one more resource
-module _ (levels : List (Option ℕ)) (s : SectionRecord) (r : ℕ) (a : Option ℕ) (within : r < length levels) where
-  pub least_look : names s r ≡ true → lesser (lesser a (get_or levels r None)) (least_level (drop (r + 1) levels) (r + 1) s) ≡ lesser a (least_level (drop r levels) r s)
-  least_look e = look a (get_or levels r None) _ (names s r) e ∙ ap (λ l. lesser a (least_level l r s)) (sym (drop_more levels r None within))
+pub least_is : (s : SectionRecord) (r : ℕ) (ls : List (Option ℕ)) → reduce min (filter_map (λ (p : ℕ × Option ℕ). p.1) (filter (λ (p : ℕ × Option ℕ). names s p.0) (zip (range_with_len r (length ls)) ls))) ≡ least_level ls r s
+least_is s r [] = refl
+least_is s r (l ∷ ls) =
+    least_more (λ (p : ℕ × Option ℕ). names s p.0) (λ (p : ℕ × Option ℕ). p.1) (r, l) (zip (range_with_len (r + 1) (length ls)) ls)
+    ∙ ap (lesser (cond (names s r) l None)) (least_is s (r + 1) ls)
 
-  pub least_pass : names s r ≡ false → lesser a (least_level (drop (r + 1) levels) (r + 1) s) ≡ lesser a (least_level (drop r levels) r s)
-  least_pass e = pass a (get_or levels r None) _ (names s r) e ∙ ap (λ l. lesser a (least_level l r s)) (sym (drop_more levels r None within))
+pub least_whole : (s : SectionRecord) (ls : List (Option ℕ)) (n : ℕ) → length ls ≡ n → reduce min (filter_map (λ (p : ℕ × Option ℕ). p.1) (filter (λ (p : ℕ × Option ℕ). names s p.0) (zip (range_with_len 0 n) ls))) ≡ least_level ls 0 s
+least_whole s ls n long =
+    ap (λ k. reduce min (filter_map (λ (p : ℕ × Option ℕ). p.1) (filter (λ (p : ℕ × Option ℕ). names s p.0) (zip (range_with_len 0 k) ls)))) (sym long)
+    ∙ least_is s 0 ls

@@ -24,10 +24,7 @@ pub struct Fault {
 fn keep(rule: Rule, breach: Option<usize>) -> Result<(), Fault>
     ensures { MatchResult result (λ _. breach ≡ None) (λ f. (breach ≡ Some f.place) × (f.rule ≡ rule)) }
 {
-    match breach {
-        None => Ok(()),
-        Some(place) => Err(Fault { rule, place }),
-    }
+    breach.map_or(Ok(()), |place| Err(Fault { rule, place }))
 }
 
 /// Judges a line, of which there is room for so many tasks and sections in all and so many of each stand before it: the count of

@@ -44,13 +44,9 @@ fn letters_at(line: &[u8], place: usize) -> Letters
 fn section_of(task: usize, around: Option<u32>, letters: Letters, ticks: u32) -> SectionRecord
     ensures { result ≡ section_of task around letters ticks }
 {
-    let around = match around {
-        Some(number) => Some(number as usize),
-        None => None,
-    };
     SectionRecord {
         task,
-        around,
+        around: around.map(|number| number as usize),
         small: letters.small,
         capital: letters.capital,
         length: ticks,
@@ -138,8 +134,7 @@ pub(crate) fn write_levels(
     requires { count ≤ length sections.old }
     ensures { sections.new ≡ map (leveled levels.now) (take count sections.old) ++ drop count sections.old }
 {
-    for i in 0..count {
-        let level = section_level(levels, &sections[i]);
-        sections[i].level = level;
+    for section in sections[..count].iter_mut() {
+        section.level = section_level(levels, section);
     }
 }

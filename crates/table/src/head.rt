@@ -19,12 +19,7 @@ fn name_length(line: &[u8]) -> usize
     ensures value { result ≡ name_length line.now }
     ensures bound { result ≤ length line.now }
 {
-    for (i, b) in line.iter().enumerate() {
-        if *b == b':' {
-            return i;
-        }
-    }
-    line.len()
+    line.iter().position(|b| *b == b':').unwrap_or(line.len())
 }
 
 /// Takes the head of a line apart.

@@ -1,10 +1,11 @@
 //! Levels: how urgent the most urgent task is that a resource, or a section, can hold up.
 ghost use Rattle.std.specs.Prelude.{◌≡◌, ◌<◌, Some, None};
 ghost use Rattle.table.specs.Limits.{resources};
-ghost use Rattle.table.specs.Level.{member, names, deadline_of, lesser, letter_level, letter_levels, least_level};
+ghost use Rattle.table.specs.Level.{member, names, deadline_of, letter_level, letter_levels, least_level};
 
 use crate::limits::{LETTERS, RESOURCES};
 use crate::records::{SectionRecord, TaskRecord};
+use std::array;
 
 /// Whether a set of resources has the one with this number.
 fn has(set: u32, resource: u32) -> bool
@@ -22,26 +23,11 @@ fn names_it(section: &SectionRecord, resource: u32) -> bool
     has(section.small, resource) || has(section.capital, resource)
 }
 
-/// The lesser of two levels, where none counts as above every number.
-fn lesser_of(a: Option<u32>, b: Option<u32>) -> Option<u32>
-    ensures { result ≡ lesser a b }
-{
-    match (a, b) {
-        (Some(x), Some(y)) => Some(x.min(y)),
-        (Some(x), None) => Some(x),
-        (None, y) => y,
-    }
-}
-
 /// The relative deadline of the task with this number, if the table has it.
 pub fn deadline_of(tasks: &[TaskRecord], task: usize) -> Option<u32>
     ensures { result ≡ deadline_of tasks.now task }
 {
-    if task < tasks.len() {
-        Some(tasks[task].deadline)
-    } else {
-        None
-    }
+    tasks.get(task).map(|t| t.deadline)
 }
 
 /// The level of a letter: the least D of the tasks that name its resource, none if no task does.
@@ -49,35 +35,27 @@ fn letter_level(tasks: &[TaskRecord], sections: &[SectionRecord], resource: u32)
     requires { resource < resources }
     ensures { result ≡ letter_level tasks.now sections.now resource }
 {
-    let mut level = None;
-    for section in sections {
-        if names_it(section, resource) {
-            level = lesser_of(level, deadline_of(tasks, section.task));
-        }
-    }
-    level
+    sections
+        .iter()
+        .filter(|s| names_it(s, resource))
+        .filter_map(|s| deadline_of(tasks, s.task))
+        .min()
 }
 
 /// The level of each letter, `a` first.
 pub fn letter_levels(tasks: &[TaskRecord], sections: &[SectionRecord]) -> [Option<u32>; LETTERS]
     ensures { result ≡ letter_levels tasks.now sections.now }
 {
-    let mut levels = [None; LETTERS];
-    for resource in 0..RESOURCES {
-        levels[resource as usize] = letter_level(tasks, sections, resource);
-    }
-    levels
+    array::from_fn(|resource| letter_level(tasks, sections, resource as u32))
 }
 
 /// The least of the levels of the resources that a section names itself; none for a section without letters.
 pub fn section_level(levels: &[Option<u32>; LETTERS], section: &SectionRecord) -> Option<u32>
     ensures { result ≡ least_level levels.now 0 section.now }
 {
-    let mut least = None;
-    for resource in 0..RESOURCES {
-        if names_it(section, resource) {
-            least = lesser_of(least, levels[resource as usize]);
-        }
-    }
-    least
+    (0..RESOURCES)
+        .zip(levels)
+        .filter(|(resource, _)| names_it(section, *resource))
+        .filter_map(|(_, level)| *level)
+        .min()
 }

@@ -22,4 +22,4 @@ pub const DEEPEST: usize = 8;
 pub const RESOURCES: u32 = 26;
 
 /// The same, as the length of an array.
-pub const LETTERS: usize = 26;
+pub const LETTERS: usize = RESOURCES as usize;

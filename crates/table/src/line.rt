@@ -20,10 +20,7 @@ impl Numeral {
     pub(crate) fn ticks(&self) -> u32
         ensures { result ≡ ticks_of self.now }
     {
-        match self.value {
-            Some(value) => value,
-            None => 0,
-        }
+        self.value.unwrap_or(0)
     }
 }
 
@@ -50,10 +47,7 @@ pub enum Item {
 fn in_range(leads: Option<u32>, value: u32) -> Option<u32>
     ensures { result ≡ ranged leads value }
 {
-    match leads {
-        Some(d) if d > 0 && value <= LARGEST => Some(value),
-        _ => None,
-    }
+    leads.filter(|d| *d > 0 && value <= LARGEST).map(|_| value)
 }
 
 /// The item that a byte is by itself: a letter, or a closing brace.

@@ -17,11 +17,10 @@ impl Span {
     pub fn part_of<'a>(&self, text: &'a [u8]) -> &'a [u8]
         ensures { result.now ≡ part_of self.now.first self.now.count text.now }
     {
-        let (first, count) = (self.first, self.count);
-        if first > text.len() || count > text.len() - first {
-            return &text[0..0];
-        }
-        &text[first..first + count]
+        self.first
+            .checked_add(self.count)
+            .and_then(|end| text.get(self.first..end))
+            .unwrap_or(&[])
     }
 }
 

@@ -12,22 +12,16 @@ use crate::nest::Nest;
 fn unread(n: &Numeral) -> Option<usize>
     ensures { result ≡ unreadable n.now }
 {
-    match n.value {
-        Some(_) => None,
-        None => Some(n.place),
-    }
+    n.value.is_none().then_some(n.place)
 }
 
 /// The earliest number of a line's head that is out of its range.
 pub(crate) fn head_fault(head: &Head) -> Option<usize>
     ensures { result ≡ head_fault head.now }
 {
-    match (head.deadline.value, head.period.value, head.cost.value) {
-        (None, _, _) => Some(head.deadline.place),
-        (Some(_), None, _) => Some(head.period.place),
-        (Some(_), Some(_), None) => Some(head.cost.place),
-        (Some(_), Some(_), Some(_)) => None,
-    }
+    [head.deadline, head.period, head.cost]
+        .iter()
+        .find_map(unread)
 }
 
 fn item_fault(item: Item) -> Option<usize>
@@ -57,18 +51,15 @@ pub(crate) fn times_fault(head: &Head) -> Option<usize>
     ensures { result ≡ times_fault head.now }
 {
     let deadline = head.deadline.ticks();
-    if head.cost.ticks() <= deadline && deadline <= head.period.ticks() {
-        None
-    } else {
-        Some(0)
-    }
+    let kept = head.cost.ticks() <= deadline && deadline <= head.period.ticks();
+    (!kept).then_some(0)
 }
 
 /// The line's start where there is no room for its task.
 pub(crate) fn tasks_fault(room: usize, before: usize) -> Option<usize>
     ensures { result ≡ tasks_fault room before }
 {
-    if before < room { None } else { Some(0) }
+    (before >= room).then_some(0)
 }
 
 /// How many sections a line has.

@@ -1,28 +1,17 @@
-use Rattle.std.proofs.Common.{◌≡◌, ℕ, ◌++◌, map, get_or, take, drop, None, Option, ap, ◌∙◌, arith}
-use Rattle.table.specs.declared.records.SectionRecord.{SectionRecord}
+use Rattle.std.proofs.Common.{take, get_or, ap, ◌∙◌, arith}
+use Rattle.std.proofs.lemmas.Grind.{common_steps}
 use Rattle.table.specs.Record.{leveled}
 use Rattle.table.proofs.Mapped.{mapped_here, mapped_more}
 use Rattle.table.proofs.fill.write_levels.Goals as goal
 
-abbrev with_level : SectionRecord → Option ℕ → SectionRecord
-with_level s l = record {
-  task = s.task;
-  around = s.around;
-  small = s.small;
-  capital = s.capital;
-  length = s.length;
-  level = l;
-}
-
-pub loop-i-preserved : goal.loop-i-preserved
-loop-i-preserved c =
+pub loop-section-preserved : goal.loop-section-preserved
+loop-section-preserved c =
     let f = leveled c.args.levels.now in
-    let xs = c.args.sections.now in
-    let i = c.loop-i.i in
-    mapped_more f xs c.loop-i.sections i _ (omega arith) c.loop-i.invariant _
-    (ap (with_level (get_or c.loop-i.sections i (record { task = 0; around = None; small = 0; capital = 0; length = 0; level = None }))) c.section_level-level.ensures ∙ ap f (mapped_here f xs c.loop-i.sections i _ (omega arith) c.loop-i.invariant))
+    let xs = take c.args.count c.args.sections.now in
+    let i = c.loop-section.section-index in
+    let same = mapped_here f xs c.loop-section.section-items i _ c.loop-section-test.true c.loop-section.invariant in
+    mapped_more f xs c.loop-section.section-items i _ c.loop-section-test.true c.loop-section.invariant _
+    (ap (λ l. record (get_or c.loop-section.section-items i _) { level = l }) c.section_level-section.ensures ∙ ap f same)
 
 pub returns : goal.returns
-returns c =
-    let at : c.loop-i.i ≡ c.args.count = omega arith in
-    c.loop-i.invariant ∙ ap (λ k. map (leveled c.args.levels.now) (take k c.args.sections.now) ++ drop k c.args.sections.now) at
+returns c = grind (arith, common_steps)

@@ -2,5 +2,6 @@ use Rattle.std.proofs.Common.{◌≡◌, ◌++◌, map, take, drop}
 use Rattle.table.specs.Record.{leveled}
 use Rattle.table.proofs.fill.write_levels.Given as goal
 
-abbrev pub invariant-loop-i : goal.invariant-loop-i
-invariant-loop-i l = l.sections ≡ map (leveled l.levels) (take l.i l.initial.sections) ++ drop l.i l.initial.sections
+abbrev pub invariant-loop-section : goal.invariant-loop-section
+invariant-loop-section l =
+    l.section-items ≡ map (leveled l.levels) (take l.section-index l.initial.section-items) ++ drop l.section-index l.initial.section-items

@@ -1,26 +1,17 @@
-use Rattle.std.proofs.Common.{◌+◌, drop, sym, ap, ◌∙◌, arith}
-use Rattle.std.proofs.lemmas.List.{drop_all}
-use Rattle.table.specs.Level.{lesser, letter_level}
-use Rattle.table.proofs.Least.{letter_look, letter_pass, lesser_none}
+use Rattle.std.proofs.Common.{sym, ◌∙◌, rules, tests}
+use Rattle.std.proofs.lemmas.Iterator.{YieldsList-from_slice}
+use Rattle.std.proofs.lemmas.Iterator.Consumers.{YieldsList-at, YieldsList-from_filter, YieldsList-from_filter_map, min_from_yields_List}
+use Rattle.std.proofs.lemmas.Iterator.Adapters.{option_map_id}
+use Rattle.table.specs.declared.records.SectionRecord.{SectionRecord}
+use Rattle.table.specs.Level.{names, deadline_of}
+use Rattle.table.proofs.Least.{letter_is}
 use Rattle.table.proofs.levels.letter_level.Goals as goal
-use Rattle.table.proofs.levels.letter_level.Goals.{then-names_it, else-names_it}
-
-pub loop-section-preserved : goal.loop-section-preserved
-loop-section-preserved c =
-    let rest = letter_level c.args.tasks.now (drop (c.loop-section.section-index + 1) c.args.sections.now) c.args.resource in
-    elim c.if-names_it.branch [
-      | then-names_it w ↦
-          ap (λ x. lesser x rest) (w.level-is ∙ w.lesser_of-level.ensures ∙ ap (lesser c.loop-section.level) w.deadline_of.ensures)
-          ∙ letter_look c.args.tasks.now c.args.sections.now c.loop-section.section-index c.args.resource _ _ c.loop-section-test.true (sym w.if-names_it.ensures)
-          ∙ c.loop-section.invariant
-      | else-names_it w ↦
-          ap (λ x. lesser x rest) w.level-is
-          ∙ letter_pass c.args.tasks.now c.args.sections.now c.loop-section.section-index c.args.resource _ _ c.loop-section-test.true (sym w.if-names_it.ensures)
-          ∙ c.loop-section.invariant
-    ]
 
 pub returns : goal.returns
 returns c =
-    sym (lesser_none c.loop-section.level)
-    ∙ ap (λ l. lesser c.loop-section.level (letter_level c.args.tasks.now l c.args.resource)) (sym (drop_all c.loop-section.section-index c.args.sections.now (omega arith)))
-    ∙ c.loop-section.invariant
+    sym (option_map_id _)
+    ∙ min_from_yields_List c.filter_map.result _ c.min.ensures.ran
+    (YieldsList-from_filter_map _ (λ (s : SectionRecord). deadline_of c.args.tasks.now s.task)
+    (YieldsList-at c.filter_map.ensures.source (YieldsList-from_filter _ (λ (s : SectionRecord). names s c.args.resource) (YieldsList-from_slice c.args.sections.now cc) c.filter.ensures.closure (λ x b q k. search (rules, tests))))
+    c.filter_map.ensures.closure (λ x r q k. search (rules, tests)))
+    ∙ letter_is c.args.tasks.now c.args.resource c.args.sections.now

@@ -1,26 +1,17 @@
-use Rattle.std.proofs.Common.{◌+◌, drop, sym, ap, ◌∙◌, arith}
-use Rattle.std.proofs.lemmas.List.{drop_all}
-use Rattle.table.specs.Level.{lesser, least_level}
-use Rattle.table.proofs.Least.{least_look, least_pass, lesser_none}
+use Rattle.std.proofs.Common.{ℕ, Option, sym, ◌∙◌, refl, arith, rules, tests}
+use Rattle.std.proofs.lemmas.Iterator.{YieldsList-from_slice, YieldsList-from_range, YieldsList-from_zip}
+use Rattle.std.proofs.lemmas.Iterator.Consumers.{YieldsList-at, YieldsList-from_filter, YieldsList-from_filter_map, min_from_yields_List}
+use Rattle.std.proofs.lemmas.Iterator.Adapters.{option_map_id}
+use Rattle.table.specs.Level.{names}
+use Rattle.table.proofs.Least.{least_whole}
 use Rattle.table.proofs.levels.section_level.Goals as goal
-use Rattle.table.proofs.levels.section_level.Goals.{then-names_it, else-names_it}
-
-pub loop-resource-preserved : goal.loop-resource-preserved
-loop-resource-preserved c =
-    let rest = least_level (drop (c.loop-resource.resource + 1) c.args.levels.now) (c.loop-resource.resource + 1) c.args.section.now in
-    elim c.if-names_it.branch [
-      | then-names_it w ↦
-          ap (λ x. lesser x rest) (w.least-is ∙ w.lesser_of-least.ensures)
-          ∙ least_look c.args.levels.now c.args.section.now c.loop-resource.resource _ (omega arith) (sym w.if-names_it.ensures)
-          ∙ c.loop-resource.invariant
-      | else-names_it w ↦
-          ap (λ x. lesser x rest) w.least-is
-          ∙ least_pass c.args.levels.now c.args.section.now c.loop-resource.resource _ (omega arith) (sym w.if-names_it.ensures)
-          ∙ c.loop-resource.invariant
-    ]
 
 pub returns : goal.returns
 returns c =
-    sym (lesser_none c.loop-resource.least)
-    ∙ ap (λ l. lesser c.loop-resource.least (least_level l c.loop-resource.resource c.args.section.now)) (sym (drop_all c.loop-resource.resource c.args.levels.now (omega arith)))
-    ∙ c.loop-resource.invariant
+    sym (option_map_id _)
+    ∙ min_from_yields_List c.filter_map.result _ c.min.ensures.ran
+    (YieldsList-from_filter_map _ (λ (p : ℕ × Option ℕ). p.1)
+    (YieldsList-at c.filter_map.ensures.source (YieldsList-from_filter _ (λ (p : ℕ × Option ℕ). names c.args.section.now p.0)
+    (YieldsList-at c.filter.ensures.source (YieldsList-from_zip (YieldsList-from_range 0 26 26 c.zip.ensures.first refl) (YieldsList-from_slice c.args.levels.now cc))) c.filter.ensures.closure (λ x b q k. search (rules, tests))))
+    c.filter_map.ensures.closure (λ x r q k. search (rules, tests)))
+    ∙ least_whole c.args.section.now c.args.levels.now 26 (omega arith)
