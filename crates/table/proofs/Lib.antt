@@ -11,7 +11,6 @@ pub mod Lined
 pub mod Listed
 pub mod Mapped
 pub mod Meanings
-pub mod Nested
 pub mod Numbered
 pub mod Parsed
 pub mod Placed
@@ -19,6 +18,7 @@ pub mod Recorded
 pub mod Rendered
 pub mod Repeated
 pub mod Rooms
+pub mod Searched
 pub mod Sectioned
 pub mod Sets
 pub mod Split

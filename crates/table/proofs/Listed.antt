@@ -1,14 +1,14 @@
 -- The items of a line, one by one.
-use Rattle.std.proofs.Common.{◌≡◌, ℕ, suc, ◌+◌, ◌<◌, ◌≤◌, true, false, List, [], ◌∷◌, length, get_or, drop, Some, None, sym, refl, ap, ◌∙◌, ⊎_elim, arith}
-use Rattle.std.proofs.lemmas.Bool.{cond-true, cond-false, cases_Bool}
-use Rattle.std.proofs.lemmas.List.{drop_more, drop_all, drop-drop}
+use Rattle.std.proofs.Common.{◌≡◌, ℕ, suc, ◌+◌, ◌<◌, ◌≤◌, Bool, true, false, List, [], ◌∷◌, length, get_or, drop, Some, None, Option, MatchOption, is_some, sym, refl, ap, ◌∙◌, ⊎_elim, arith}
+use Rattle.std.proofs.lemmas.Bool.{false≢true, cond_both, cond-true, cond-false, cases_Bool}
+use Rattle.std.proofs.lemmas.List.{drop_more, drop_all, drop-drop, length-drop}
 use Rattle.table.specs.declared.line.Numeral.{Numeral}
+use Rattle.table.specs.declared.line.Cursor.{Cursor}
 use Rattle.table.specs.declared.line.Item.{Item}
 use Rattle.table.specs.declared.line.Item.TheVariants.{Open}
 use Rattle.table.specs.Byte.{is_digit}
-use Rattle.table.proofs.Values.{run_more, behind_bound}
 use Rattle.table.specs.Number.{digit_run, value_of, numeral_at, behind, NoDigit, IsDigit}
-use Rattle.table.specs.Item.{mark_at, joined, items, items_from}
+use Rattle.table.specs.Item.{mark_at, joined, items, items_from, left}
 
 -- within a number the rest of its digits are passed over
 pub skip : (p : ℕ) (t : List ℕ) → items true p t ≡ items false (p + length (digit_run t)) (drop (length (digit_run t)) t)
@@ -43,23 +43,24 @@ module _ (xs : List ℕ) (i : ℕ) (within : i < length xs) where
 pub item_none : (xs : List ℕ) (i : ℕ) → length xs ≤ i → items_from i xs ≡ []
 item_none xs i past = ap (items false i) (drop_all i xs past)
 
--- what the question for the next item finds, from a place where reading stands at i and nothing was found yet
-module _ (xs line : List ℕ) (p i : ℕ) (same : line ≡ xs) (past : p ≤ i) (within : i < length line) (inv : items_from i line ≡ items_from p xs) where
-  pub found_number : (d : ℕ) (n : Numeral) (j : ℕ) → IsDigit line i d → n ≡ numeral_at i line → j ≡ behind i line → (items_from p xs ≡ Open n ∷ items_from j xs) × ((p < j) × (j ≤ length xs))
-  found_number d n j h is at =
-      let run = ap length (run_more line i d h) in
-      let long = ap length same in
-      let short = behind_bound (length line) i line (omega arith) (omega arith) in (
-        sym inv ∙ item_number line i within h.here ∙ ap (λ x. Open x ∷ items_from (behind i line) line) (sym is)
-            ∙ ap (λ k. Open n ∷ items_from k line) (sym at) ∙ ap (λ l. Open n ∷ items_from j l) same,
-        (omega arith, omega arith),
-      )
+-- a digit was found at a cursor: the number there is the next item
+pub number_left : (c c' : Cursor) (o : Option ℕ) (n : Numeral) → MatchOption o (NoDigit c.line.now c.place) (IsDigit c.line.now c.place) → is_some o ≡ true → n ≡ numeral_at c.place c.line.now → c'.place ≡ behind c.place c.line.now → c'.line.now ≡ c.line.now → left c ≡ Open n ∷ left c'
+number_left c c' None n h some is at same = absurd (false≢true some)
+number_left c c' (Some d) n h some is at same =
+    item_number c.line.now c.place h.within h.here ∙ ap (λ x. Open x ∷ items_from (behind c.place c.line.now) c.line.now) (sym is)
+    ∙ ap (λ k. Open n ∷ items_from k c.line.now) (sym at) ∙ ap (λ l. Open n ∷ items_from c'.place l) (sym same)
 
-  pub found_mark : (item : Item) → NoDigit line i → Some item ≡ mark_at i (get_or line i 0) → (items_from p xs ≡ item ∷ items_from (i + 1) xs) × ((p < i + 1) × (i + 1 ≤ length xs))
-  found_mark item h is = (
-    sym inv ∙ item_mark line i within h ∙ ap (λ o. joined o (items_from (i + 1) line)) (sym is) ∙ ap (λ l. item ∷ items_from (i + 1) l) same,
-    (omega arith, omega (arith, ap length same)),
-  )
+-- each item takes at least a byte
+joined_short : (o : Option Item) (is : List Item) → length (joined o is) ≤ 1 + length is
+joined_short None is = omega arith
+joined_short (Some i) is = omega arith
 
-  pub found_nothing : NoDigit line i → None ≡ mark_at i (get_or line i 0) → items_from (i + 1) line ≡ items_from p xs
-  found_nothing h is = ap (λ o. joined o (items_from (i + 1) line)) is ∙ sym (item_mark line i within h) ∙ inv
+items_short : (within : Bool) (p : ℕ) (t : List ℕ) → length (items within p t) ≤ length t
+items_short within p [] = omega arith
+items_short within p (b ∷ t) =
+    cond_both (is_digit b) _ _ (λ l. length l ≤ suc (length t))
+    (λ _. cond_both within _ _ (λ l. length l ≤ suc (length t)) (λ _. omega (arith, items_short true (p + 1) t)) (λ _. omega (arith, items_short true (p + 1) t)))
+    (λ _. omega (arith, joined_short (mark_at p b) (items false (p + 1) t), items_short false (p + 1) t))
+
+pub left_short : (c : Cursor) → length (left c) ≤ length c.line.now
+left_short c = omega (arith, items_short false c.place (drop c.place c.line.now), length-drop c.place c.line.now)

@@ -1,5 +1,6 @@
 -- The records of a line's sections, one by one.
-use Rattle.std.proofs.Common.{◌≡◌, ℕ, ◌+◌, ◌<◌, true, ltb, List, [], ◌∷◌, length, set, sym, refl, ap, ◌∙◌, subst, arith}
+use Rattle.std.proofs.Common.{◌≡◌, ℕ, ◌+◌, ◌<◌, Bool, true, false, ltb, List, [], ◌∷◌, length, set, sym, refl, ap, ◌∙◌, subst, arith}
+use Rattle.std.specs.List.{filter}
 use Rattle.std.proofs.lemmas.Bool.{and_parts}
 use Rattle.table.specs.declared.line.Numeral.{Numeral}
 use Rattle.table.specs.declared.line.Item.{Item}
@@ -10,6 +11,18 @@ use Rattle.table.specs.Number.{ticks_of}
 use Rattle.table.specs.Rule.{opens, shallow}
 use Rattle.table.specs.Record.{letters_from, section_of, sections_in}
 use Rattle.table.proofs.Written.{Sofar, wrote}
+
+-- sections that open, among items
+abbrev pub is_open : Item → Bool
+is_open (Open n) = true
+is_open (Named l) = false
+is_open Close = false
+
+pub opens_filter : (is : List Item) → length (filter is_open is) ≡ opens is
+opens_filter [] = refl
+opens_filter (Open n ∷ is) = omega (arith, opens_filter is)
+opens_filter (Named l ∷ is) = opens_filter is
+opens_filter (Close ∷ is) = opens_filter is
 
 -- there are as many records as sections that open
 pub length-sections_in : (task n : ℕ) (around : List ℕ) (is : List Item) → length (sections_in task n around is) ≡ opens is

@@ -1,6 +1,7 @@
 -- The items of a line behind its head: sections that open, letters, sections that close. Spaces, opening braces and the line's end
 -- say nothing more, and are passed over.
-use Rattle.std.specs.Prelude.{◌≡◌, ℕ, ◌+◌, ◌-◌, ◌^◌, ◌<◌, ◌≤◌, Bool, true, false, cond, List, [], ◌∷◌, length, drop, Some, None, Option, ◌==◌}
+use Rattle.std.specs.Prelude.{ℕ, ◌+◌, ◌-◌, ◌^◌, Bool, true, false, cond, List, [], ◌∷◌, drop, Some, None, Option, ◌==◌}
+use Rattle.table.specs.declared.line.Cursor.{Cursor}
 use Rattle.table.specs.declared.line.Item.{Item}
 use Rattle.table.specs.declared.line.Item.TheVariants.{Open, Named, Close}
 use Rattle.table.specs.Byte.{is_digit, is_small, is_capital}
@@ -30,7 +31,6 @@ items within p (b ∷ t) =
 abbrev pub items_from : ℕ → List ℕ → List Item
 items_from p line = items false p (drop p line)
 
--- the answer to a question for the next item: none is left, or one, and reading goes on at another place
-abbrev pub Next : List ℕ → ℕ → Option Item → ℕ → Type 0
-Next line p None p' = items_from p line ≡ []
-Next line p (Some item) p' = (items_from p line ≡ item ∷ items_from p' line) × ((p < p') × (p' ≤ length line))
+-- the items that a cursor has still to give
+abbrev pub left : Cursor → List Item
+left c = items_from c.place c.line.now

@@ -1,16 +1,16 @@
 //! Checks a text before anything is written: which rule it breaks first, or how many tasks and sections it has.
-ghost use Rattle.std.specs.Prelude.{◌≡◌, ◌+◌, ◌<◌, ◌≤◌, length, drop, Some, None, Ok, Err, MatchResult};
+ghost use Rattle.std.specs.Prelude.{◌≡◌, ◌≤◌, length, Some, None, Ok, Err, MatchResult};
 ghost use Rattle.table.specs.Judged.{line_judged, lines_judged, nothing_read};
 ghost use Rattle.table.specs.Limits.{longest_text};
-ghost use Rattle.table.specs.Lines.{lines_of, line_length};
+ghost use Rattle.table.specs.Lines.{lines_of};
 
 use crate::form::form_fault;
 use crate::head::head_of;
+use crate::line::Cursor;
 use crate::records::Counts;
 use crate::refusal::{Place, Refusal, Rule};
 use crate::rules::{
-    count_sections, head_fault, length_fault, number_fault, repeat_fault, section_fault,
-    tasks_fault, times_fault,
+    Nested, count_sections, head_fault, number_fault, section_fault, tasks_fault, times_fault,
 };
 
 /// The rule that a line breaks first, and the place in the line, from 0.
@@ -34,32 +34,19 @@ fn check_line(line: &[u8], room: Counts, before: Counts) -> Result<usize, Fault>
 {
     keep(Rule::Form, form_fault(line))?;
     let head = head_of(line);
-    let body = head.body;
+    let items = Cursor::at(line, head.body);
     keep(Rule::Number, head_fault(&head))?;
-    keep(Rule::Number, number_fault(line, body))?;
+    keep(Rule::Number, number_fault(items))?;
     keep(Rule::Times, times_fault(&head))?;
     keep(Rule::Tasks, tasks_fault(room.tasks, before.tasks))?;
     keep(
         Rule::Sections,
-        section_fault(line, body, room.sections, before.sections),
+        section_fault(items, room.sections, before.sections),
     )?;
-    keep(Rule::Repeated, repeat_fault(line, body))?;
-    keep(Rule::Length, length_fault(line, body, head.cost.ticks()))?;
-    Ok(before.sections + count_sections(line, body))
-}
-
-/// Where the line that begins at a place ends: behind its byte 10, or at the text's end.
-pub(crate) fn line_end(text: &[u8], start: usize) -> usize
-    requires { start ≤ length text.now }
-    ensures value { result ≡ start + line_length (drop start text.now) }
-    ensures bound { result ≤ length text.now }
-{
-    for i in start..text.len() {
-        if text[i] == b'\n' {
-            return i + 1;
-        }
-    }
-    text.len()
+    let nested = Nested::of(items);
+    keep(Rule::Repeated, nested.repeat_fault())?;
+    keep(Rule::Length, nested.length_fault(head.cost.ticks()))?;
+    Ok(before.sections + count_sections(items))
 }
 
 /// Judges the lines of a text in order: how many tasks and sections they have, or the first fault and its place.
@@ -71,23 +58,18 @@ pub(crate) fn check_lines(text: &[u8], room: Counts) -> Result<Counts, Refusal>
         tasks: 0,
         sections: 0,
     };
-    let mut start = 0;
-    while start < text.len() {
-        let end = line_end(text, start);
-        match check_line(&text[start..end], room, read) {
-            Ok(sections) => read = Counts {
-                tasks: read.tasks + 1,
-                sections,
-            },
+    for line in text.split_inclusive(|b| *b == b'\n') {
+        let tasks = read.tasks + 1;
+        match check_line(line, room, read) {
+            Ok(sections) => read = Counts { tasks, sections },
             Err(fault) => {
                 let place = Place {
-                    line: read.tasks + 1,
+                    line: tasks,
                     byte: fault.place + 1,
                 };
                 return Err(Refusal::Broken(fault.rule, place));
             }
         }
-        start = end;
     }
     Ok(read)
 }

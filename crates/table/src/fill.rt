@@ -1,20 +1,19 @@
 //! Writes the records of a text that has been checked.
-ghost use Rattle.std.specs.Prelude.{◌≡◌, ◌+◌, ◌<◌, ◌≤◌, true, [], ◌++◌, map, length, take, drop, is_ok};
-ghost use Rattle.table.specs.Item.{items_from};
+ghost use Rattle.std.specs.Prelude.{◌≡◌, ◌+◌, ◌≤◌, true, [], ◌++◌, map, length, take, drop, is_ok};
+ghost use Rattle.table.specs.Head.{line_items};
+ghost use Rattle.table.specs.Item.{left};
 ghost use Rattle.table.specs.Judged.{lines_judged, room_for, nothing_read};
-ghost use Rattle.table.specs.Limits.{most_sections};
 ghost use Rattle.table.specs.Lines.{lines_of};
-ghost use Rattle.table.specs.Rule.{opens, shallow};
+ghost use Rattle.table.specs.Rule.{opens};
 ghost use Rattle.table.specs.Record.{letters_from, section_of, sections_in, task_of, written, text_tasks, bare_sections, leveled};
 
-use crate::check::line_end;
 use crate::head::head_of;
 use crate::levels::section_level;
-use crate::limits::LETTERS;
+use crate::limits::{DEEPEST, LETTERS};
 use crate::line::{Cursor, Item};
-use crate::nest::Nest;
 use crate::records::{SectionRecord, Span, TaskRecord};
-use crate::rules::count_sections;
+use crate::rules::{Nested, count_sections};
+use arrayvec::ArrayVec;
 
 /// The letters of one section, as two sets.
 #[derive(Clone, Copy)]
@@ -24,29 +23,30 @@ pub struct Letters {
 }
 
 /// The letters that come next.
-fn letters_at(line: &[u8], place: usize) -> Letters
-    ensures { result ≡ letters_from 0 0 (items_from place line.now) }
+fn letters_at(items: Cursor<'_>) -> Letters
+    ensures { result ≡ letters_from 0 0 (left items.entry) }
 {
-    let mut small = 0;
-    let mut capital = 0;
-    let mut cursor = Cursor::at(line, place);
-    while let Some(Item::Named(l)) = cursor.next() {
-        if l.capital {
-            capital |= l.bit;
-        } else {
-            small |= l.bit;
+    let mut letters = Letters {
+        small: 0,
+        capital: 0,
+    };
+    for item in items {
+        match item {
+            Item::Named(l) if l.capital => letters.capital |= l.bit,
+            Item::Named(l) => letters.small |= l.bit,
+            Item::Open(_) | Item::Close => break,
         }
     }
-    Letters { small, capital }
+    letters
 }
 
 /// A section's record without its level.
-fn section_of(task: usize, around: Option<u32>, letters: Letters, ticks: u32) -> SectionRecord
+fn section_of(task: usize, around: Option<usize>, letters: Letters, ticks: u32) -> SectionRecord
     ensures { result ≡ section_of task around letters ticks }
 {
     SectionRecord {
         task,
-        around: around.map(|number| number as usize),
+        around,
         small: letters.small,
         capital: letters.capital,
         length: ticks,
@@ -54,12 +54,14 @@ fn section_of(task: usize, around: Option<u32>, letters: Letters, ticks: u32) ->
     }
 }
 
-/// The record of a line's task.
-fn task_of(line: &[u8], place: usize, first: usize) -> TaskRecord
-    ensures { result ≡ task_of place first line.now }
+/// The record of a line's task, and the line's items.
+fn task_of(line: &[u8], place: usize, first: usize) -> (TaskRecord, Cursor<'_>)
+    ensures task { result.0 ≡ task_of place first line.now }
+    ensures items { left result.1 ≡ line_items line.now }
 {
     let head = head_of(line);
-    TaskRecord {
+    let items = Cursor::at(line, head.body);
+    let task = TaskRecord {
         name: Span {
             first: place,
             count: head.name,
@@ -69,37 +71,32 @@ fn task_of(line: &[u8], place: usize, first: usize) -> TaskRecord
         cost: head.cost.ticks(),
         sections: Span {
             first,
-            count: count_sections(line, head.body),
+            count: count_sections(items),
         },
-    }
+    };
+    (task, items)
 }
 
 /// Writes the records of a line's sections, from the place with the number `first` on, without their levels.
-fn write_sections(
-    line: &[u8],
-    body: usize,
-    task: usize,
-    first: usize,
-    sections: &mut [SectionRecord],
-)
-    requires shallow { shallow 0 (items_from body line.now) ≡ true }
-    requires room { first + opens (items_from body line.now) ≤ length sections.old }
-    requires few { first + opens (items_from body line.now) ≤ most_sections }
-    ensures { sections.new ≡ written first (sections_in task first [] (items_from body line.now)) sections.old }
+fn write_sections(nested: Nested<'_>, task: usize, first: usize, sections: &mut [SectionRecord])
+    requires { first + opens (left nested.items) ≤ length sections.old }
+    ensures { sections.new ≡ written first (sections_in task first [] (left nested.entry.items)) sections.old }
 {
-    let mut around = Nest::new();
+    let mut around = ArrayVec::<usize, DEEPEST>::new();
     let mut number = first;
-    let mut cursor = Cursor::at(line, body);
-    while let Some(item) = cursor.next() {
+    let mut items = nested.items();
+    while let Some(item) = items.next() {
         match item {
             Item::Open(n) => {
-                let letters = letters_at(line, cursor.place());
-                sections[number] = section_of(task, around.innermost(), letters, n.ticks());
-                around.push(number as u32);
+                let letters = letters_at(items);
+                sections[number] = section_of(task, around.last().copied(), letters, n.ticks());
+                around.push(number);
                 number += 1;
             }
             Item::Named(_) => {}
-            Item::Close => around.pop(),
+            Item::Close => {
+                around.pop();
+            }
         }
     }
 }
@@ -110,18 +107,14 @@ pub(crate) fn write_lines(text: &[u8], tasks: &mut [TaskRecord], sections: &mut 
     ensures tasks { tasks.new ≡ written 0 (text_tasks text.now) tasks.old }
     ensures sections { sections.new ≡ written 0 (bare_sections text.now) sections.old }
 {
-    let mut task = 0;
+    let mut place = 0;
     let mut first = 0;
-    let mut start = 0;
-    while start < text.len() {
-        let end = line_end(text, start);
-        let line = &text[start..end];
-        let record = task_of(line, start, first);
+    for (task, line) in text.split_inclusive(|b| *b == b'\n').enumerate() {
+        let (record, items) = task_of(line, place, first);
         tasks[task] = record;
-        write_sections(line, head_of(line).body, task, first, sections);
-        task += 1;
+        write_sections(Nested::of(items), task, first, sections);
+        place += line.len();
         first += record.sections.count;
-        start = end;
     }
 }
 

@@ -9,7 +9,6 @@ mod head;
 pub mod levels;
 pub mod limits;
 mod line;
-mod nest;
 pub mod read;
 pub mod records;
 pub mod refusal;

@@ -2,7 +2,8 @@
 //!
 //! None of these functions relies on the line's form; on other lines they find what their definitions say.
 ghost use Rattle.std.specs.Prelude.{◌≡◌, ◌+◌, ◌^◌, ◌<◌, min, drop, MatchOption};
-ghost use Rattle.table.specs.Item.{mark_at, Next};
+ghost use Rattle.std.specs.Iterator.{YieldsFirst, item_count};
+ghost use Rattle.table.specs.Item.{mark_at, left};
 ghost use Rattle.table.specs.Limits.{largest};
 ghost use Rattle.table.specs.Number.{NoDigit, IsDigit, decimal, digit_run, behind, numeral_at, ranged, ticks_of};
 
@@ -54,29 +55,20 @@ fn in_range(leads: Option<u32>, value: u32) -> Option<u32>
 fn mark(place: usize, b: u8) -> Option<Item>
     ensures { result ≡ mark_at place b }
 {
-    match b as char {
-        'a'..='z' => {
-            let bit = 1u32 << (b - b'a');
-            Some(Item::Named(Letter {
-                place,
-                bit,
-                capital: false,
-            }))
-        }
-        'A'..='Z' => {
-            let bit = 1u32 << (b - b'A');
-            Some(Item::Named(Letter {
-                place,
-                bit,
-                capital: true,
-            }))
-        }
-        '}' => Some(Item::Close),
-        _ => None,
-    }
+    let (first, capital) = match b as char {
+        'a'..='z' => (b'a', false),
+        'A'..='Z' => (b'A', true),
+        '}' => return Some(Item::Close),
+        _ => return None,
+    };
+    Some(Item::Named(Letter {
+        place,
+        bit: 1 << (b - first),
+        capital,
+    }))
 }
 
-/// A line and a place in it, up to which it has been read.
+/// A line and a place in it, up to which it has been read. As an iterator it gives the items from there on.
 #[derive(Clone, Copy, Drop)]
 pub struct Cursor<'a> {
     line: &'a [u8],
@@ -112,12 +104,9 @@ impl<'a> Cursor<'a> {
     fn digit(&self) -> Option<u32>
         ensures { MatchOption result (NoDigit self.now.line.now self.now.place) (IsDigit self.now.line.now self.now.place) }
     {
-        if self.place >= self.line.len() {
-            return None;
-        }
-        let b = self.line[self.place];
+        let b = *self.line.get(self.place)?;
         match b as char {
-            '0'..='9' => Some((b - b'0') as u32),
+            '0'..='9' => Some(u32::from(b - b'0')),
             _ => None,
         }
     }
@@ -150,19 +139,24 @@ impl<'a> Cursor<'a> {
             value: in_range(leads, value),
         }
     }
+}
+
+impl<'a> Iterator for Cursor<'a> {
+    type Item = Item;
+
+    ghost next_gives = { YieldsFirst left };
+
+    ghost remaining = { item_count left };
 
     /// The next item, if one is left; goes on behind it.
-    pub(crate) fn next(&mut self) -> Option<Item>
-        ensures next { Next self.old.line.now self.old.place result self.new.place }
-        ensures same { self.new.line.now ≡ self.old.line.now }
-    {
-        while self.place < self.line.len() {
-            if let Some(_) = self.digit() {
+    fn next(&mut self) -> Option<Item> {
+        while let Some(b) = self.line.get(self.place) {
+            if self.digit().is_some() {
                 return Some(Item::Open(self.number()));
             }
             let place = self.place;
             self.place += 1;
-            if let Some(item) = mark(place, self.line[place]) {
+            if let Some(item) = mark(place, *b) {
                 return Some(item);
             }
         }

@@ -1,12 +1,12 @@
 //! The rules that a well-formed line has to keep: for each, the place of its earliest breach.
-ghost use Rattle.std.specs.Prelude.{◌≡◌, ◌<◌, true, [], length};
-ghost use Rattle.table.specs.Item.{items_from};
+ghost use Rattle.std.specs.Prelude.{◌≡◌, true, []};
+ghost use Rattle.table.specs.Item.{left};
 ghost use Rattle.table.specs.Rule.{unreadable, item_fault, head_fault, number_fault, times_fault, tasks_fault, section_fault, repeat_fault, length_fault, opens, shallow};
 
 use crate::head::Head;
 use crate::limits::DEEPEST;
 use crate::line::{Cursor, Item, Numeral};
-use crate::nest::Nest;
+use arrayvec::ArrayVec;
 
 /// The place of a number that is out of its range.
 fn unread(n: &Numeral) -> Option<usize>
@@ -34,16 +34,10 @@ fn item_fault(item: Item) -> Option<usize>
 }
 
 /// The earliest length of a section that is out of its range.
-pub(crate) fn number_fault(line: &[u8], body: usize) -> Option<usize>
-    ensures { result ≡ number_fault (items_from body line.now) }
+pub(crate) fn number_fault(mut items: Cursor<'_>) -> Option<usize>
+    ensures { result ≡ number_fault (left items.entry) }
 {
-    let mut cursor = Cursor::at(line, body);
-    while let Some(item) = cursor.next() {
-        if let Some(place) = item_fault(item) {
-            return Some(place);
-        }
-    }
-    None
+    items.find_map(item_fault)
 }
 
 /// The line's start where C ≤ D ≤ T does not hold.
@@ -63,27 +57,19 @@ pub(crate) fn tasks_fault(room: usize, before: usize) -> Option<usize>
 }
 
 /// How many sections a line has.
-pub(crate) fn count_sections(line: &[u8], body: usize) -> usize
-    ensures { result ≡ opens (items_from body line.now) }
+pub(crate) fn count_sections(items: Cursor<'_>) -> usize
+    ensures { result ≡ opens (left items.entry) }
 {
-    let mut count = 0;
-    let mut cursor = Cursor::at(line, body);
-    while let Some(item) = cursor.next() {
-        if let Item::Open(_) = item {
-            count += 1;
-        }
-    }
-    count
+    items.filter(|item| matches!(item, Item::Open(_))).count()
 }
 
 /// The earliest section for which there is no room, or that is nested too deep.
-pub(crate) fn section_fault(line: &[u8], body: usize, room: usize, before: usize) -> Option<usize>
-    ensures { result ≡ section_fault room before 0 (items_from body line.now) }
+pub(crate) fn section_fault(items: Cursor<'_>, room: usize, before: usize) -> Option<usize>
+    ensures { result ≡ section_fault room before 0 (left items.entry) }
 {
     let mut count = before;
     let mut depth: usize = 0;
-    let mut cursor = Cursor::at(line, body);
-    while let Some(item) = cursor.next() {
+    for item in items {
         match item {
             Item::Open(n) => {
                 if count >= room || depth >= DEEPEST {
@@ -99,48 +85,74 @@ pub(crate) fn section_fault(line: &[u8], body: usize, room: usize, before: usize
     None
 }
 
-/// The earliest letter whose resource its section, or one around it, has named before.
-pub(crate) fn repeat_fault(line: &[u8], body: usize) -> Option<usize>
-    requires { shallow 0 (items_from body line.now) ≡ true }
-    ensures { result ≡ repeat_fault [] (items_from body line.now) }
-{
-    let mut seen = Nest::new();
-    let mut cursor = Cursor::at(line, body);
-    while let Some(item) = cursor.next() {
-        let named = seen.innermost().unwrap_or(0);
-        match item {
-            Item::Open(_) => seen.push(named),
-            Item::Named(l) => {
-                if named & l.bit != 0 {
-                    return Some(l.place);
-                }
-                seen.renew(named | l.bit);
-            }
-            Item::Close => seen.pop(),
-        }
-    }
-    None
+/// The items of a line whose sections nest at most eight deep.
+#[derive(Clone, Copy, Drop)]
+pub struct Nested<'a> {
+    items: Cursor<'a>,
+    ghost shallow: { shallow 0 (left items) ≡ true },
 }
 
-/// The earliest section that is longer than the one around it, or than C.
-pub(crate) fn length_fault(line: &[u8], body: usize, cost: u32) -> Option<usize>
-    requires { shallow 0 (items_from body line.now) ≡ true }
-    ensures { result ≡ length_fault cost [] (items_from body line.now) }
-{
-    let mut lengths = Nest::new();
-    let mut cursor = Cursor::at(line, body);
-    while let Some(item) = cursor.next() {
-        match item {
-            Item::Open(n) => {
-                let length = n.ticks();
-                if length > lengths.innermost().unwrap_or(cost) {
-                    return Some(n.place);
-                }
-                lengths.push(length);
-            }
-            Item::Named(_) => {}
-            Item::Close => lengths.pop(),
-        }
+impl<'a> Nested<'a> {
+    /// Items that `section_fault` has nothing against.
+    pub(crate) fn of(items: Cursor<'a>) -> Nested<'a>
+        requires { shallow 0 (left items) ≡ true }
+        ensures { result.items ≡ items.entry }
+    {
+        Nested { items }
     }
-    None
+
+    /// The items.
+    pub(crate) fn items(&self) -> Cursor<'a>
+        ensures { result ≡ self.now.items }
+    {
+        self.items
+    }
+
+    /// The earliest letter whose resource its section, or one around it, has named before.
+    pub(crate) fn repeat_fault(&self) -> Option<usize>
+        ensures { result ≡ repeat_fault [] (left self.now.items) }
+    {
+        let mut seen = ArrayVec::<u32, DEEPEST>::new();
+        for item in self.items {
+            let named = seen.last().copied().unwrap_or(0);
+            match item {
+                Item::Open(_) => seen.push(named),
+                Item::Named(l) => {
+                    if named & l.bit != 0 {
+                        return Some(l.place);
+                    }
+                    if let Some(set) = seen.last_mut() {
+                        *set = named | l.bit;
+                    }
+                }
+                Item::Close => {
+                    seen.pop();
+                }
+            }
+        }
+        None
+    }
+
+    /// The earliest section that is longer than the one around it, or than C.
+    pub(crate) fn length_fault(&self, cost: u32) -> Option<usize>
+        ensures { result ≡ length_fault cost [] (left self.now.items) }
+    {
+        let mut lengths = ArrayVec::<u32, DEEPEST>::new();
+        for item in self.items {
+            match item {
+                Item::Open(n) => {
+                    let length = n.ticks();
+                    if length > lengths.last().copied().unwrap_or(cost) {
+                        return Some(n.place);
+                    }
+                    lengths.push(length);
+                }
+                Item::Named(_) => {}
+                Item::Close => {
+                    lengths.pop();
+                }
+            }
+        }
+        None
+    }
 }

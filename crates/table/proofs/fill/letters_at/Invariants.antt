@@ -1,12 +1,7 @@
-use Rattle.std.proofs.Common.{◌≡◌, ◌-◌, length}
-use Rattle.table.specs.Item.{items_from}
+use Rattle.std.proofs.Common.{◌≡◌}
+use Rattle.table.specs.Item.{left}
 use Rattle.table.specs.Record.{letters_from}
 use Rattle.table.proofs.fill.letters_at.Given as goal
 
-abbrev pub invariant-loop-l : goal.invariant-loop-l
-invariant-loop-l l =
-    (l.cursor.line.now ≡ l.line)
-    × (letters_from l.small l.capital (items_from l.cursor.place l.cursor.line.now) ≡ letters_from 0 0 (items_from l.place l.line))
-
-abbrev pub decreases-loop-l : goal.decreases-loop-l
-decreases-loop-l l = length l.cursor.line.now - l.cursor.place
+abbrev pub invariant-loop-item : goal.invariant-loop-item
+invariant-loop-item l = letters_from l.letters.small l.letters.capital (left l.item-iterator) ≡ letters_from 0 0 (left l.fn.items)

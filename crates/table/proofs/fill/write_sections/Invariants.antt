@@ -1,6 +1,5 @@
-use Rattle.std.proofs.Common.{◌≡◌, ◌+◌, ◌-◌, true, [], length}
-use Rattle.table.specs.Item.{items_from}
-use Rattle.table.specs.Nest.{inner}
+use Rattle.std.proofs.Common.{◌≡◌, ◌+◌, true, [], length, reverse}
+use Rattle.table.specs.Item.{left}
 use Rattle.table.specs.Rule.{opens, shallow}
 use Rattle.table.specs.Record.{sections_in}
 use Rattle.table.proofs.Written.{Sofar}
@@ -8,11 +7,10 @@ use Rattle.table.proofs.fill.write_sections.Given as goal
 
 abbrev pub invariant-loop-item : goal.invariant-loop-item
 invariant-loop-item l =
-    (l.cursor.line.now ≡ l.line)
-    × (shallow l.around.depth (items_from l.cursor.place l.cursor.line.now) ≡ true)
-    × (l.number + opens (items_from l.cursor.place l.cursor.line.now) ≡ l.first + opens (items_from l.body l.line))
-    × Sofar l.initial.sections l.first (sections_in l.task l.first [] (items_from l.body l.line))
-    l.sections l.number (sections_in l.task l.number (inner l.around.values l.around.depth) (items_from l.cursor.place l.cursor.line.now))
+    (shallow (length l.around.items) (left l.items) ≡ true)
+    × (l.number + opens (left l.items) ≡ l.first + opens (left l.fn.nested.items))
+    × Sofar l.initial.sections l.first (sections_in l.task l.first [] (left l.fn.nested.items))
+    l.sections l.number (sections_in l.task l.number (reverse l.around.items) (left l.items))
 
 abbrev pub decreases-loop-item : goal.decreases-loop-item
-decreases-loop-item l = length l.cursor.line.now - l.cursor.place
+decreases-loop-item l = length (left l.items)
