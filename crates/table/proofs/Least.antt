@@ -1,6 +1,6 @@
 -- The least of several levels, as the least of those that are there.
-use Rattle.std.proofs.Common.{◌≡◌, ℕ, ◌+◌, min, Bool, true, false, cond, List, [], ◌∷◌, length, Some, None, Option, sym, refl, ap, ◌∙◌, arith}
-use Rattle.std.specs.List.{fold, reduce, filter, filter_map, cons_option, range_with_len, zip}
+use Rattle.std.proofs.Common.{◌≡◌, ℕ, ◌+◌, min, Bool, true, false, cond, List, [], ◌∷◌, Some, None, Option, refl, ap, ◌∙◌, arith}
+use Rattle.std.specs.List.{fold, reduce, filter, filter_map, cons_option, enumerate_from}
 use Rattle.table.specs.declared.records.TaskRecord.{TaskRecord}
 use Rattle.table.specs.declared.records.SectionRecord.{SectionRecord}
 use Rattle.table.specs.Level.{names, deadline_of, lesser, letter_level, least_level}
@@ -34,13 +34,8 @@ letter_is tasks r (s ∷ ss) =
     least_more (λ (x : SectionRecord). names x r) (λ (x : SectionRecord). deadline_of tasks x.task) s ss
     ∙ ap (lesser (cond (names s r) (deadline_of tasks s.task) None)) (letter_is tasks r ss)
 
-pub least_is : (s : SectionRecord) (r : ℕ) (ls : List (Option ℕ)) → reduce min (filter_map (λ (p : ℕ × Option ℕ). p.1) (filter (λ (p : ℕ × Option ℕ). names s p.0) (zip (range_with_len r (length ls)) ls))) ≡ least_level ls r s
+pub least_is : (s : SectionRecord) (r : ℕ) (ls : List (Option ℕ)) → reduce min (filter_map (λ (p : ℕ × Option ℕ). p.1) (filter (λ (p : ℕ × Option ℕ). names s p.0) (enumerate_from r ls))) ≡ least_level ls r s
 least_is s r [] = refl
 least_is s r (l ∷ ls) =
-    least_more (λ (p : ℕ × Option ℕ). names s p.0) (λ (p : ℕ × Option ℕ). p.1) (r, l) (zip (range_with_len (r + 1) (length ls)) ls)
+    least_more (λ (p : ℕ × Option ℕ). names s p.0) (λ (p : ℕ × Option ℕ). p.1) (r, l) (enumerate_from (r + 1) ls)
     ∙ ap (lesser (cond (names s r) l None)) (least_is s (r + 1) ls)
-
-pub least_whole : (s : SectionRecord) (ls : List (Option ℕ)) (n : ℕ) → length ls ≡ n → reduce min (filter_map (λ (p : ℕ × Option ℕ). p.1) (filter (λ (p : ℕ × Option ℕ). names s p.0) (zip (range_with_len 0 n) ls))) ≡ least_level ls 0 s
-least_whole s ls n long =
-    ap (λ k. reduce min (filter_map (λ (p : ℕ × Option ℕ). p.1) (filter (λ (p : ℕ × Option ℕ). names s p.0) (zip (range_with_len 0 k) ls)))) (sym long)
-    ∙ least_is s 0 ls

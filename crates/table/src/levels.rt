@@ -3,7 +3,7 @@ ghost use Rattle.std.specs.Prelude.{◌≡◌, ◌<◌, Some, None};
 ghost use Rattle.table.specs.Limits.{resources};
 ghost use Rattle.table.specs.Level.{member, names, deadline_of, letter_level, letter_levels, least_level};
 
-use crate::limits::{LETTERS, RESOURCES};
+use crate::limits::LETTERS;
 use crate::records::{SectionRecord, TaskRecord};
 use std::array;
 
@@ -20,7 +20,7 @@ fn names_it(section: &SectionRecord, resource: u32) -> bool
     requires { resource < resources }
     ensures { result ≡ names section.now resource }
 {
-    has(section.small, resource) || has(section.capital, resource)
+    has(section.small | section.capital, resource)
 }
 
 /// The relative deadline of the task with this number, if the table has it.
@@ -53,9 +53,10 @@ pub fn letter_levels(tasks: &[TaskRecord], sections: &[SectionRecord]) -> [Optio
 pub fn section_level(levels: &[Option<u32>; LETTERS], section: &SectionRecord) -> Option<u32>
     ensures { result ≡ least_level levels.now 0 section.now }
 {
-    (0..RESOURCES)
-        .zip(levels)
-        .filter(|(resource, _)| names_it(section, *resource))
+    levels
+        .iter()
+        .enumerate()
+        .filter(|(resource, _)| names_it(section, *resource as u32))
         .filter_map(|(_, level)| *level)
         .min()
 }
