@@ -60,14 +60,7 @@ sections_of task n (line ∷ lines) = sections_in task n [] (line_items line) ++
 
 -- a section with its level
 abbrev pub leveled : List (Option ℕ) → SectionRecord → SectionRecord
-leveled levels s = record {
-  task = s.task;
-  around = s.around;
-  small = s.small;
-  capital = s.capital;
-  length = s.length;
-  level = least_level levels 0 s;
-}
+leveled levels s = record s { level = least_level levels 0 s }
 
 -- the records of a text
 abbrev pub text_tasks : List ℕ → List TaskRecord

@@ -1,5 +1,5 @@
 //! Writes the records of a text that has been checked.
-ghost use Rattle.std.specs.Prelude.{◌≡◌, ◌+◌, ◌≤◌, true, [], ◌++◌, map, length, take, drop, is_ok};
+ghost use Rattle.std.specs.Prelude.{◌≡◌, ◌+◌, ◌≤◌, true, [], map, length, is_ok};
 ghost use Rattle.table.specs.Head.{line_items};
 ghost use Rattle.table.specs.Item.{left};
 ghost use Rattle.table.specs.Judged.{lines_judged, room_for, nothing_read};
@@ -118,16 +118,11 @@ pub(crate) fn write_lines(text: &[u8], tasks: &mut [TaskRecord], sections: &mut 
     }
 }
 
-/// Fills in the levels of the first so many sections, by the levels of the letters.
-pub(crate) fn write_levels(
-    levels: &[Option<u32>; LETTERS],
-    sections: &mut [SectionRecord],
-    count: usize,
-)
-    requires { count ≤ length sections.old }
-    ensures { sections.new ≡ map (leveled levels.now) (take count sections.old) ++ drop count sections.old }
+/// Fills in the levels of sections, by the levels of the letters.
+pub(crate) fn write_levels(levels: &[Option<u32>; LETTERS], sections: &mut [SectionRecord])
+    ensures { sections.new ≡ map (leveled levels.now) sections.old }
 {
-    for section in sections[..count].iter_mut() {
+    for section in sections.iter_mut() {
         section.level = section_level(levels, section);
     }
 }

@@ -48,24 +48,9 @@ fn write_records(
     ensures sections { sections.new ≡ text_sections text.now ++ drop (length (text_sections text.now)) sections.old }
 {
     write_lines(text, tasks, sections);
-    let (task_count, section_count) = (counts.tasks, counts.sections);
-    let levels = letter_levels(&tasks[0..task_count], &sections[0..section_count]);
-    write_levels(&levels, sections, section_count);
-}
-
-/// Reads a text that breaks no rule, and refuses any other before it writes.
-fn read_checked(
-    text: &[u8],
-    tasks: &mut [TaskRecord],
-    sections: &mut [SectionRecord],
-) -> Result<Counts, Refusal>
-    ensures value { result ≡ judged text.now (length tasks.old) (length sections.old) }
-    ensures tasks { tasks.new ≡ filled result (text_tasks text.now) tasks.old }
-    ensures sections { sections.new ≡ filled result (text_sections text.now) sections.old }
-{
-    let counts = check_text(text, tasks.len(), sections.len())?;
-    write_records(text, counts, tasks, sections);
-    Ok(counts)
+    let written = &mut sections[..counts.sections];
+    let levels = letter_levels(&tasks[..counts.tasks], written);
+    write_levels(&levels, written);
 }
 
 /// Reads a text into task records and section records, and answers how many of each it has.
@@ -85,5 +70,7 @@ pub fn read(
     ensures exactly { Exactly text.now (room_for (length tasks.old) (length sections.old)) result }
     ensures bound { IfOk result (λ c. (c.tasks ≤ length tasks.old) × (c.sections ≤ length sections.old)) }
 {
-    read_checked(text, tasks, sections)
+    let counts = check_text(text, tasks.len(), sections.len())?;
+    write_records(text, counts, tasks, sections);
+    Ok(counts)
 }

@@ -79,10 +79,7 @@ impl fmt::Display for Refusal {
         let number = self.number();
         match self {
             Refusal::TooLong | Refusal::Empty => write!(f, "{number}"),
-            Refusal::Broken(_, place) => {
-                let (line, byte) = (place.line, place.byte);
-                write!(f, "{number} {line} {byte}")
-            }
+            Refusal::Broken(_, Place { line, byte }) => write!(f, "{number} {line} {byte}"),
         }
     }
 }
