@@ -13,3 +13,8 @@ go_on room before r lines =
       | Err f ↦ Err (Broken f.rule (record { line = before.tasks + 1; byte = f.place + 1 }))
       | Ok sections ↦ lines_judged room (record { tasks = before.tasks + 1; sections = sections }) lines
     ]
+
+-- a line's judgement as one of its text, where the line has this number
+abbrev pub in_text : ℕ → Result ℕ Fault → Result ℕ Refusal
+in_text line (Ok sections) = Ok sections
+in_text line (Err f) = Err (Broken f.rule (record { line = line; byte = f.place + 1 }))

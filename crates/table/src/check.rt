@@ -1,7 +1,8 @@
 //! Checks a text before anything is written: which rule it breaks first, or how many tasks and sections it has.
-ghost use Rattle.std.specs.Prelude.{◌≡◌, ◌≤◌, length, Some, None, Ok, Err, MatchResult};
+ghost use Rattle.std.specs.Prelude.{◌≡◌, ◌+◌, ◌^◌, ◌<◌, ◌≤◌, length, Some, None, Ok, Err, MatchResult};
 ghost use Rattle.table.specs.Judged.{line_judged, lines_judged, nothing_read};
 ghost use Rattle.table.specs.Limits.{longest_text};
+ghost use Rattle.table.specs.declared.refusal.Refusal.TheVariants.{Broken};
 ghost use Rattle.table.specs.Lines.{lines_of};
 
 use crate::form::form_fault;
@@ -18,6 +19,17 @@ use crate::rules::{
 pub struct Fault {
     pub rule: Rule,
     pub place: usize,
+}
+
+impl Fault {
+    /// Why a text is refused that has this fault in a line with this number.
+    fn in_line(self, line: usize) -> Refusal
+        requires { self.place + 1 < 2 ^ 64 }
+        ensures { result ≡ Broken self.rule (record { line = line; byte = self.place + 1 }) }
+    {
+        let byte = self.place + 1;
+        Refusal::Broken(self.rule, Place { line, byte })
+    }
 }
 
 /// Refuses a line at the place of a rule's breach, and goes on where there is none.
@@ -60,16 +72,8 @@ pub(crate) fn check_lines(text: &[u8], room: Counts) -> Result<Counts, Refusal>
     };
     for line in text.split_inclusive(|b| *b == b'\n') {
         let tasks = read.tasks + 1;
-        match check_line(line, room, read) {
-            Ok(sections) => read = Counts { tasks, sections },
-            Err(fault) => {
-                let place = Place {
-                    line: tasks,
-                    byte: fault.place + 1,
-                };
-                return Err(Refusal::Broken(fault.rule, place));
-            }
-        }
+        let sections = check_line(line, room, read).map_err(|fault| fault.in_line(tasks))?;
+        read = Counts { tasks, sections };
     }
     Ok(read)
 }
