@@ -20,7 +20,6 @@ pub mod Repeated
 pub mod Rooms
 pub mod Searched
 pub mod Sectioned
-pub mod Sets
 pub mod Split
 pub mod Spotted
 pub mod Steps

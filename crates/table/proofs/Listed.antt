@@ -1,7 +1,7 @@
 -- The items of a line, one by one.
 use Rattle.std.proofs.Common.{◌≡◌, ℕ, suc, ◌+◌, ◌<◌, ◌≤◌, Bool, true, false, List, [], ◌∷◌, length, get_or, drop, Some, None, Option, MatchOption, is_some, sym, refl, ap, ◌∙◌, ⊎_elim, arith}
 use Rattle.std.proofs.lemmas.Bool.{false≢true, cond_both, cond-true, cond-false, cases_Bool}
-use Rattle.std.proofs.lemmas.List.{drop_more, drop_all, drop-drop, length-drop}
+use Rattle.std.proofs.lemmas.List.{drop_more, drop-drop, length-drop}
 use Rattle.table.specs.declared.line.Numeral.{Numeral}
 use Rattle.table.specs.declared.line.Cursor.{Cursor}
 use Rattle.table.specs.declared.line.Item.{Item}
@@ -36,12 +36,6 @@ module _ (xs : List ℕ) (i : ℕ) (within : i < length xs) where
       ap (items false i) here ∙ cond-true (is_digit b) _ _ e
       ∙ ap (λ l. Open (record { place = i; value = value_of (digit_run l) }) ∷ items true (i + 1) t) (sym here)
       ∙ ap (λ l. Open (numeral_at i xs) ∷ l) (skip (i + 1) t ∙ ap (items false (i + 1 + length (digit_run t))) (drop-drop (length (digit_run t)) (i + 1) xs) ∙ ap (λ k. items_from k xs) long)
-
-  pub item_mark : is_digit (get_or xs i 0) ≡ false → items_from i xs ≡ joined (mark_at i (get_or xs i 0)) (items_from (i + 1) xs)
-  item_mark e = ap (items false i) (drop_more xs i 0 within) ∙ cond-false (is_digit (get_or xs i 0)) _ _ e
-
-pub item_none : (xs : List ℕ) (i : ℕ) → length xs ≤ i → items_from i xs ≡ []
-item_none xs i past = ap (items false i) (drop_all i xs past)
 
 -- a digit was found at a cursor: the number there is the next item
 pub number_left : (c c' : Cursor) (o : Option ℕ) (n : Numeral) → MatchOption o (NoDigit c.line.now c.place) (IsDigit c.line.now c.place) → is_some o ≡ true → n ≡ numeral_at c.place c.line.now → c'.place ≡ behind c.place c.line.now → c'.line.now ≡ c.line.now → left c ≡ Open n ∷ left c'

@@ -1,6 +1,10 @@
 -- The rule on letters: the fault that is found in a written line is its earliest.
 use Rattle.std.proofs.Common.{◌≡◌, ℕ, ◌+◌, ◌*◌, ◌^◌, ◌≤◌, cond, eqb, List, [], ◌∷◌, ◌++◌, length, Some, None, Option, sym, refl, ap, ◌∙◌, subst, inl, inr, ⊎_elim, arith}
 use lib.Bits.{bit_and, bit_or}
+use Rattle.std.specs.Int.{bit_at}
+use Rattle.std.proofs.Math.Nat.{zero-mul, one-mul}
+use Rattle.std.proofs.lemmas.Nat.{pow_pos}
+use Rattle.std.proofs.lemmas.Nat.Bits.{bit_at-lt, bit_at-zero, bit_at-pow_same, bit_at-pow_other, bit_at_or, and_pow}
 use Rattle.std.proofs.lemmas.Bool.{cases_eq, eqb-true, eqb-false}
 use Rattle.table.specs.declared.line.Item.{Item}
 use Rattle.table.specs.declared.refusal.Rule.TheVariants.{Repeated}
@@ -12,20 +16,32 @@ use Rattle.table.specs.Breach.{resource, Own, letters_place, letters_of, Names, 
 use Rattle.table.proofs.Spotted.{letter_items, letters_at, inside_is, items_line}
 use Rattle.table.proofs.Exact.{Exact, exact_both, exact_test, else_cond, else_assoc}
 use Rattle.table.proofs.Placed.{Walk, any_number, walked_line}
-use Rattle.table.proofs.Sets.{has, has_digit, has_none, has_self, has_only, has_or, apart_if, apart_has}
+
+-- a set of one has no other
+only : (r r' : ℕ) → bit_at (2 ^ r') r ≡ 1 → r' ≡ r
+only r r' e = ⊎_elim (λ same. sym same) (λ other. absurd (let none = bit_at-pow_other r' r other in omega arith)) (cases_eq r r')
+
+-- what meets a set of one has that one
+has_none : (s r : ℕ) → bit_and s (2 ^ r) ≡ 0 → bit_at s r ≡ 0
+has_none s r e =
+    ⊎_elim (λ one. absurd (let full = sym (and_pow s r ∙ ap (λ b. b * 2 ^ r) one ∙ one-mul (2 ^ r)) ∙ e in omega (arith, pow_pos r)))
+    (λ other. omega (arith, bit_at-lt s r)) (cases_eq (bit_at s r) 1)
+
+none_has : (s r : ℕ) → bit_at s r ≡ 0 → bit_and s (2 ^ r) ≡ 0
+none_has s r e = and_pow s r ∙ ap (λ b. b * 2 ^ r) e ∙ zero-mul (2 ^ r)
 
 -- the set has just the resources that these letters name
 abbrev Holds : ℕ → List (Byte Letter) → Type 0
-Holds s ls = (r : ℕ) → (has r s ≡ 1 → Names ls r) × (Names ls r → has r s ≡ 1)
+Holds s ls = (r : ℕ) → (bit_at s r ≡ 1 → Names ls r) × (Names ls r → bit_at s r ≡ 1)
 
 holds_more : (s : ℕ) (ls : List (Byte Letter)) (l : Byte Letter) → Holds s ls → Holds (bit_or s (2 ^ resource l)) (l ∷ ls)
 holds_more s ls l h = λ r.
     let bit = 2 ^ resource l in
-    let or = has_or r s bit in
-    let d = has_digit r s in
-    let d' = has_digit r bit in (
-      λ e. ⊎_elim (λ x. inr ((h r).0 x)) (λ x. inl (has_only r (resource l) (omega arith))) (cases_eq (has r s) 1),
-      ⊎_elim (λ e. let self : has r bit ≡ 1 = subst (λ x. has r (2 ^ x) ≡ 1) (sym e) (has_self r) in omega arith) (λ x. omega (arith, (h r).1 x)),
+    let or = bit_at_or s bit r in
+    let d = bit_at-lt s r in
+    let d' = bit_at-lt bit r in (
+      λ e. ⊎_elim (λ x. inr ((h r).0 x)) (λ x. inl (only r (resource l) (omega arith))) (cases_eq (bit_at s r) 1),
+      ⊎_elim (λ e. let self : bit_at bit r ≡ 1 = subst (λ x. bit_at (2 ^ x) r ≡ 1) (sym e) (bit_at-pow_same r) in omega arith) (λ x. omega (arith, (h r).1 x)),
     )
 
 -- a letter among others, or before them
@@ -54,7 +70,7 @@ seen_in [] = []
 seen_in (o ∷ os) = added o.letters (named (seen_in os)) ∷ seen_in os
 
 holds_seen : (around : List Own) → Holds (named (seen_in around)) (letters_of around)
-holds_seen [] = λ r. (λ e. omega (arith, has_none r), λ x. absurd x)
+holds_seen [] = λ r. (λ e. omega (arith, bit_at-zero r), λ x. absurd x)
 holds_seen (o ∷ os) = holds_added o.letters (named (seen_in os)) (letters_of os) (holds_seen os)
 
 -- the first of these letters that names again what the set has
@@ -82,8 +98,8 @@ exact_letters before s q (l ∷ ls) h =
     let r = resource l in
     let meet = bit_and s (2 ^ r) in
     exact_both (λ p. (q ≡ p) × Names before r) (Repeats (l ∷ before) (q + 2) ls) (cond (eqb meet 0) None (Some q)) (letter_fault (bit_or s (2 ^ r)) (q + 2) ls)
-    (exact_test (eqb meet 0) q (Names before r) (λ e x. omega (arith, apart_has r s (eqb-true meet 0 e), (h r).1 x))
-    (λ e. (h r).0 (⊎_elim (λ x. x) (λ x. absurd (eqb-false meet 0 e (apart_if r s (omega (arith, has_digit r s))))) (cases_eq (has r s) 1))))
+    (exact_test (eqb meet 0) q (Names before r) (λ e x. omega (arith, has_none s r (eqb-true meet 0 e), (h r).1 x))
+    (λ e. (h r).0 (⊎_elim (λ x. x) (λ x. absurd (eqb-false meet 0 e (none_has s r (omega (arith, bit_at-lt s r))))) (cases_eq (bit_at s r) 1))))
     (exact_letters (l ∷ before) (bit_or s (2 ^ r)) (q + 2) ls (holds_more s before l h))
     (λ p p' x y. omega (arith, x.0, (repeats_within (l ∷ before) (q + 2) ls p' y).0))
 

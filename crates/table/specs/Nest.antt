@@ -1,10 +1,5 @@
--- A stack of numbers, one for each open section, that lies in a fixed array: the list of them, innermost first.
-use Rattle.std.specs.Prelude.{ℕ, zero, suc, List, [], ◌∷◌, Some, None, Option, slice_index}
-
--- the first so many places of an array, last first
-abbrev pub inner : List ℕ → ℕ → List ℕ
-inner values zero = []
-inner values (suc d) = slice_index values d ∷ inner values d
+-- A stack of numbers, one for each open section: the list of them, innermost first.
+use Rattle.std.specs.Prelude.{ℕ, List, [], ◌∷◌, Some, None, Option}
 
 -- the innermost number, if there is one
 abbrev pub top : List ℕ → Option ℕ

@@ -8,19 +8,19 @@ use std::fmt;
 #[derive(Clone, Copy, Debug, PartialEq)]
 pub enum Rule {
     /// The line has the form of a line.
-    Form,
+    Form = 3,
     /// A number is 1 to 1,048,576, without a leading zero.
-    Number,
+    Number = 4,
     /// C ≤ D ≤ T.
-    Times,
+    Times = 5,
     /// There is room for the line's task.
-    Tasks,
+    Tasks = 6,
     /// There is room for each section, and none stands inside eight others.
-    Sections,
+    Sections = 7,
     /// No resource stands twice in a section together with those around it.
-    Repeated,
+    Repeated = 8,
     /// No section is longer than the one around it, and none is longer than C.
-    Length,
+    Length = 9,
 }
 
 impl Rule {
@@ -28,15 +28,7 @@ impl Rule {
     pub fn number(&self) -> u32
         ensures { result ≡ rule_number self.now }
     {
-        match self {
-            Rule::Form => 3,
-            Rule::Number => 4,
-            Rule::Times => 5,
-            Rule::Tasks => 6,
-            Rule::Sections => 7,
-            Rule::Repeated => 8,
-            Rule::Length => 9,
-        }
+        *self as u32
     }
 }
 
