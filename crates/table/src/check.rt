@@ -66,10 +66,7 @@ pub(crate) fn check_lines(text: &[u8], room: Counts) -> Result<Counts, Refusal>
     requires { length text.now ≤ longest_text }
     ensures { result ≡ lines_judged room nothing_read (lines_of text.now) }
 {
-    let mut read = Counts {
-        tasks: 0,
-        sections: 0,
-    };
+    let mut read = Counts::default();
     for line in text.split_inclusive(|b| *b == b'\n') {
         let tasks = read.tasks + 1;
         let sections = check_line(line, room, read).map_err(|fault| fault.in_line(tasks))?;

@@ -16,7 +16,7 @@ use crate::rules::{Nested, count_sections};
 use arrayvec::ArrayVec;
 
 /// The letters of one section, as two sets.
-#[derive(Clone, Copy)]
+#[derive(Clone, Copy, Default)]
 pub struct Letters {
     pub small: u32,
     pub capital: u32,
@@ -26,10 +26,7 @@ pub struct Letters {
 fn letters_at(items: Cursor<'_>) -> Letters
     ensures { result ≡ letters_from 0 0 (left items.entry) }
 {
-    let mut letters = Letters {
-        small: 0,
-        capital: 0,
-    };
+    let mut letters = Letters::default();
     for item in items {
         match item {
             Item::Named(l) if l.capital => letters.capital |= l.bit,
@@ -85,6 +82,7 @@ fn write_sections(nested: Nested<'_>, task: usize, first: usize, sections: &mut 
     let mut around = ArrayVec::<usize, DEEPEST>::new();
     let mut number = first;
     let mut items = nested.items();
+    // No `for`: a copy of `items` reads the letters behind an opening brace.
     while let Some(item) = items.next() {
         match item {
             Item::Open(n) => {
@@ -111,6 +109,7 @@ pub(crate) fn write_lines(text: &[u8], tasks: &mut [TaskRecord], sections: &mut 
     let mut first = 0;
     for (task, line) in text.split_inclusive(|b| *b == b'\n').enumerate() {
         let (record, items) = task_of(line, place, first);
+        // No zip with `tasks.iter_mut()`: nothing would be known of what an adapter of it has written.
         tasks[task] = record;
         write_sections(Nested::of(items), task, first, sections);
         place += line.len();

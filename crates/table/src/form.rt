@@ -42,6 +42,8 @@ pub enum State {
 }
 
 /// What one more byte does.
+///
+/// An enum of its own: an `Option` in a `Result` has three outcomes too, but does not say which of them ends a line well.
 #[derive(Clone, Copy)]
 pub enum Move {
     /// It cannot stand there.

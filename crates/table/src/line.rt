@@ -26,6 +26,8 @@ impl Numeral {
 }
 
 /// A letter of a section: its place in the line, the resource that it names, as a set of one, and whether it is a capital.
+///
+/// The flag is no enum, since a letter is small or a capital and nothing else, and one place asks which.
 #[derive(Clone, Copy)]
 pub struct Letter {
     pub place: usize,
@@ -118,6 +120,7 @@ impl<'a> Cursor<'a> {
         ensures same { self.new.line.now ≡ self.old.line.now }
     {
         let mut value = 0;
+        // No fold over a slice: the cursor would still have to be moved by the number of digits that it took.
         while let Some(d) = self.digit() {
             value = (value * 10 + d).min(LARGEST + 1);
             self.place += 1;

@@ -71,7 +71,7 @@ impl SectionRecord {
 }
 
 /// How many tasks and sections there are, or may be.
-#[derive(Clone, Copy, Debug, PartialEq)]
+#[derive(Clone, Copy, Debug, Default, PartialEq)]
 pub struct Counts {
     pub tasks: usize,
     pub sections: usize,

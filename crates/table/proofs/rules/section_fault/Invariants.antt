@@ -5,7 +5,5 @@ use Rattle.table.proofs.rules.section_fault.Given as goal
 
 abbrev pub invariant-loop-item : goal.invariant-loop-item
 invariant-loop-item l =
-    (goal.iterator-loop-item).can_next l.item-iterator
-    × (goal.iterator-loop-item).is_finite l.item-iterator
-    × (l.depth ≤ 8)
+    (l.depth ≤ 8)
     × (section_fault l.room l.count l.depth (left l.item-iterator) ≡ section_fault l.room l.before 0 (left l.fn.items))

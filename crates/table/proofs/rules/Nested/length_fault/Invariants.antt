@@ -5,7 +5,5 @@ use Rattle.table.proofs.rules.Nested.length_fault.Given as goal
 
 abbrev pub invariant-loop-item : goal.invariant-loop-item
 invariant-loop-item l =
-    (goal.iterator-loop-item).can_next l.item-iterator
-    × (goal.iterator-loop-item).is_finite l.item-iterator
-    × (shallow (length l.lengths.items) (left l.item-iterator) ≡ true)
+    (shallow (length l.lengths.items) (left l.item-iterator) ≡ true)
     × (length_fault l.cost (reverse l.lengths.items) (left l.item-iterator) ≡ length_fault l.cost [] (left l.self.items))

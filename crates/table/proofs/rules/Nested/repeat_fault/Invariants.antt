@@ -5,7 +5,5 @@ use Rattle.table.proofs.rules.Nested.repeat_fault.Given as goal
 
 abbrev pub invariant-loop-item : goal.invariant-loop-item
 invariant-loop-item l =
-    (goal.iterator-loop-item).can_next l.item-iterator
-    × (goal.iterator-loop-item).is_finite l.item-iterator
-    × (shallow (length l.seen.items) (left l.item-iterator) ≡ true)
+    (shallow (length l.seen.items) (left l.item-iterator) ≡ true)
     × (repeat_fault (reverse l.seen.items) (left l.item-iterator) ≡ repeat_fault [] (left l.self.items))
