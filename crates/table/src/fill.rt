@@ -109,7 +109,7 @@ pub(crate) fn write_lines(text: &[u8], tasks: &mut [TaskRecord], sections: &mut 
     let mut first = 0;
     for (task, line) in text.split_inclusive(|b| *b == b'\n').enumerate() {
         let (record, items) = task_of(line, place, first);
-        // No zip with `tasks.iter_mut()`: nothing would be known of what an adapter of it has written.
+        // No zip with `tasks.iter_mut()`: a proof then knows nothing of what the slice holds at the end.
         tasks[task] = record;
         write_sections(Nested::of(items), task, first, sections);
         place += line.len();

@@ -93,7 +93,7 @@ pub struct Nested<'a> {
 }
 
 impl<'a> Nested<'a> {
-    /// Items that `section_fault` has nothing against.
+    /// Items of which at most eight sections are open at once.
     pub(crate) fn of(items: Cursor<'a>) -> Nested<'a>
         requires { shallow 0 (left items) ≡ true }
         ensures { result.items ≡ items.entry }

@@ -1,5 +1,4 @@
-use Rattle.std.proofs.Common.{ap, ◌∙◌, get_or, arith}
-use Rattle.std.proofs.lemmas.Grind.{common_steps}
+use Rattle.std.proofs.Common.{ap, ◌∙◌, get_or}
 use Rattle.table.specs.Record.{leveled}
 use Rattle.table.proofs.Mapped.{mapped_here, mapped_more}
 use Rattle.table.proofs.fill.write_levels.Goals as goal
@@ -12,6 +11,3 @@ loop-section-preserved c =
     mapped_more f xs c.loop-section.sections i _ c.loop-section-test.true c.loop-section.invariant _
     (ap (λ l. record (get_or c.loop-section.sections i _) { level = l }) c.section_level-section.ensures
     ∙ ap f (mapped_here f xs c.loop-section.sections i _ c.loop-section-test.true c.loop-section.invariant))
-
-pub returns : goal.returns
-returns c = grind (arith, common_steps)

@@ -1,7 +1,7 @@
 use Rattle.std.proofs.Common.{◌≡◌, ◌+◌, ◌*◌, min, length, drop, ap, ◌∙◌, arith}
 use native.Mathlib.Nat.{min_comm}
 use Rattle.table.specs.Number.{digit_run, decimal_from}
-use Rattle.table.proofs.Values.{run_more, run_none, value_more}
+use Rattle.table.proofs.Values.{run_more, value_more}
 use Rattle.table.proofs.line.Cursor.digits.Goals as goal
 
 pub loop-d-preserved : goal.loop-d-preserved
@@ -15,10 +15,3 @@ loop-d-preserved c =
       ap (λ x. min 1048577 (decimal_from x (digit_run (drop (c.loop-d.self.place + 1) c.loop-d.self.line.now)))) is
           ∙ value_more c.loop-d.self.line.now c.loop-d.self.place c.in-Some.d c.loop-d.value h ∙ c.loop-d.invariant.3,
     )
-
-pub returns : goal.returns
-returns c =
-    let n = run_none c.loop-d.self.line.now c.loop-d.self.place c.in_default.ensures in
-    let long = ap length n in
-    let value = ap (λ l. min 1048577 (decimal_from c.loop-d.value l)) n in
-    record { value = omega (arith, c.loop-d.invariant.3); after = omega arith; same = c.loop-d.invariant.0 }
