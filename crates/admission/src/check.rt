@@ -1,8 +1,10 @@
 //! The check that records break no rule of a table.
-ghost use Rattle.std.specs.Prelude.{◌≡◌, ◌+◌, ◌^◌, ◌<◌, [], length};
+ghost use Rattle.std.specs.Prelude.{◌≡◌, ◌+◌, ◌^◌, ◌<◌, true, [], length, MatchResult};
 ghost use Rattle.admission.specs.Sound.{times_sound, same_level, sections_sound, task_sound, tasks_sound, levels_sound, sound};
+ghost use Rattle.admission.specs.Verdict.{Refused};
 
 use crate::path::Path;
+use crate::refusal::Refusal;
 use table::levels::{letter_levels, section_level};
 use table::limits::{LARGEST, MOST_SECTIONS, MOST_TASKS};
 use table::records::{SectionRecord, TaskRecord};
@@ -82,11 +84,35 @@ fn levels_sound(tasks: &[TaskRecord], sections: &[SectionRecord]) -> bool
 }
 
 /// Whether the records break no rule of a table.
-pub(crate) fn sound_records(tasks: &[TaskRecord], sections: &[SectionRecord]) -> bool
+fn sound_records(tasks: &[TaskRecord], sections: &[SectionRecord]) -> bool
     ensures { result ≡ sound tasks.now sections.now }
 {
     if tasks.is_empty() || tasks.len() > MOST_TASKS || sections.len() > MOST_SECTIONS {
         return false;
     }
     tasks_sound(tasks, sections) && levels_sound(tasks, sections)
+}
+
+/// Records that break no rule of a table, lent for reading.
+#[derive(Clone, Copy)]
+pub struct Sound<'a> {
+    pub tasks: &'a [TaskRecord],
+    pub sections: &'a [SectionRecord],
+    ghost rules: { sound tasks.now sections.now ≡ true },
+}
+
+impl<'a> Sound<'a> {
+    /// The records that are lent, unless they break a rule.
+    pub(crate) fn new(
+        tasks: &'a [TaskRecord],
+        sections: &'a [SectionRecord],
+    ) -> Result<Sound<'a>, Refusal>
+        ensures { MatchResult result (λ s. (s.tasks.now ≡ tasks.now) × (s.sections.now ≡ sections.now)) (Refused tasks.now sections.now) }
+    {
+        if sound_records(tasks, sections) {
+            Ok(Sound { tasks, sections })
+        } else {
+            Err(Refusal::Records)
+        }
+    }
 }
