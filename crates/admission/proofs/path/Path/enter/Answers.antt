@@ -1,24 +1,27 @@
-use Rattle.std.proofs.Common.{◌+◌, ◌≤◌, sym, ◌∙◌, arith}
-use Rattle.std.proofs.lemmas.List.{length-set}
+use Rattle.std.proofs.Common.{◌∷◌, length, refl, reverse, ap, sym, ◌∙◌, Some, None, arith}
+use lib.Bits.{bit_or}
+use Rattle.std.proofs.lemmas.List.{length-reverse, reverse-append}
 use Rattle.admission.specs.Stack.{open_of}
-use Rattle.admission.proofs.Entered.{free, entered_push}
+use Rattle.admission.proofs.Entered.{sound_shallow, entered_none, entered_wrong, entered_some}
 use Rattle.admission.proofs.path.Path.enter.Goals as goal
 
-pub bounds-self-depth : goal.bounds-self-depth
-bounds-self-depth c =
-    free c.args.owner c.args.cost c.args.self.now.places c.in-Some.depth c.args.section.now
-    c.args.self.now.tall c.in-Some.ensures.within (sym c.if-not-admits.ensures)
+pub push-requires : goal.push-requires
+push-requires c =
+    let opened = c.unwind.new.self.opened.items in
+    let shallow = sound_shallow c.args.owner c.args.cost (reverse opened) c.args.section.now (sym c.if-not-admits.ensures) in
+    (omega arith, omega (arith, length-reverse opened))
 
-pub invariant_of-self-2 : goal.invariant_of-self-2
-invariant_of-self-2 c =
-    let room =
-    free c.args.owner c.args.cost c.args.self.now.places c.in-Some.depth c.args.section.now
-    c.args.self.now.tall c.in-Some.ensures.within (sym c.if-not-admits.ensures) in
-    let within : c.in-Some.depth + 1 ≤ 8 = omega arith in
-    record { tall = length-set c.args.self.now.places c.in-Some.depth _ ∙ c.args.self.now.tall; within = within }
+pub returns-then-not-admits : goal.returns-then-not-admits
+returns-then-not-admits c =
+    entered_wrong c.args.owner c.args.cost c.args.number (open_of c.args.self.now) c.args.section.now (open_of c.unwind.new.self)
+    c.in_ok-unwind.ensures (sym c.if-not-admits.ensures)
 
 pub returns : goal.returns
 returns c =
-    entered_push c.args.owner c.args.cost c.args.self.now.places c.in-Some.depth c.args.section.now
-    c.args.self.now.tall c.in-Some.ensures.within (sym c.if-not-admits.ensures)
-    c.args.number (open_of c.args.self.now) c.taken.result c.in-Some.ensures.what c.taken.ensures
+    let opened = c.unwind.new.self.opened.items in
+    let section = c.args.section.now in
+    entered_some c.args.owner c.args.cost c.args.number (open_of c.args.self.now) section (reverse opened)
+    c.in_ok-unwind.ensures (sym c.if-not-admits.ensures)
+    ∙ ap Some
+    (ap (λ taken. record { number = c.args.number; length = section.length; letters = bit_or (bit_or section.small section.capital) taken } ∷ reverse opened) (sym c.taken.ensures)
+    ∙ sym (ap reverse c.push.ensures.items ∙ reverse-append opened _))
