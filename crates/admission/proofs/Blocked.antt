@@ -1,6 +1,5 @@
 -- Blocking: the longest section that can hold up jobs due by an instant.
-use Rattle.std.proofs.Common.{fold, map, filter, unwrap_or, ◌≡◌, ℕ, ◌+◌, ◌<◌, ◌≤◌, max, true, false, cond, ◌⊎◌, List, [], ◌∷◌, length, get_or, drop, Some, None, Option, refl, ap, ◌∙◌, inl, inr, arith}
-use Rattle.std.proofs.lemmas.List.{at_drop_more}
+use Rattle.std.proofs.Common.{fold, map, filter, unwrap_or, ◌≡◌, ℕ, ◌+◌, ◌≤◌, max, true, false, cond, ◌⊎◌, List, [], ◌∷◌, Some, None, Option, refl, ap, ◌∙◌, inl, inr, arith}
 use Rattle.std.specs.List.{AllByRecursion, reduce}
 use Rattle.std.proofs.ByRecursion.{All-weaker}
 use Rattle.std.proofs.lemmas.Bool.{cond_both, cond-true, cond-false, cases_lt, le-leb, lt-leb, leb-true, lt-ltb, ltb-true, and_parts, and_from, and_left}

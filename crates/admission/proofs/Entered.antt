@@ -1,7 +1,7 @@
 -- The next section of a task: it is opened, or it breaks a rule.
-use Rattle.std.proofs.Common.{◌≡◌, ℕ, ◌+◌, ◌<◌, ◌≤◌, Bool, true, false, cond, ◌&&◌, eqb, ltb, leb, List, ◌∷◌, length, set, Some, None, Option, sym, refl, ap, ◌∙◌, arith}
+use Rattle.std.proofs.Common.{◌≡◌, ℕ, ◌+◌, ◌<◌, Bool, true, false, cond, ◌&&◌, eqb, leb, List, ◌∷◌, length, Some, None, Option, refl, ap, ◌∙◌}
 use lib.Bits.{bit_and, bit_or}
-use Rattle.std.proofs.lemmas.Bool.{and_parts, le-leb, ltb-true, cond-true, cond-false}
+use Rattle.std.proofs.lemmas.Bool.{and_parts, ltb-true, cond-true, cond-false}
 use Rattle.table.specs.declared.records.SectionRecord.{SectionRecord}
 use Rattle.admission.specs.declared.path.Opened.{Opened}
 use Rattle.admission.specs.Sound.{unwound, longest, taken, letters_sound, roomy, section_sound, opening, sections_sound}

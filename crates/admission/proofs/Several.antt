@@ -1,5 +1,5 @@
 -- Several tasks: what they ask for together, and when one of them is due.
-use Rattle.std.proofs.Common.{true, map, fold, sum_by, sym, ◌≡◌, ℕ, zero, suc, ◌+◌, ◌-◌, ◌*◌, ◌<◌, ◌≤◌, min, ◌⊎◌, List, [], ◌∷◌, length, get_or, take, drop, Some, refl, ap, subst, inl, inr, arith}
+use Rattle.std.proofs.Common.{true, map, fold, sum_by, sym, ◌≡◌, ℕ, zero, suc, ◌+◌, ◌-◌, ◌*◌, ◌<◌, ◌≤◌, min, ◌⊎◌, List, [], ◌∷◌, length, get_or, Some, refl, ap, subst, inl, inr, arith}
 use Rattle.std.specs.List.{AllByRecursion, slice_get, reduce}
 use Rattle.std.proofs.ByRecursion.{All-get_or}
 use Rattle.std.proofs.lemmas.List.Recursion.{is_sum_by}
@@ -10,7 +10,7 @@ use Rattle.std.proofs.lemmas.Bool.{cases_lt}
 use Rattle.table.specs.declared.records.TaskRecord.{TaskRecord}
 use Rattle.table.specs.Level.{deadline_of}
 use Rattle.admission.specs.Demand.{demand_of, workload_of, demand, workload}
-use Rattle.admission.specs.Due.{DueOf, Due, NextOf, Next}
+use Rattle.admission.specs.Due.{DueOf, Due, Next}
 use Rattle.admission.specs.Facts.{Timed}
 use Rattle.admission.proofs.Single.{due_after, due_after_next, demand_of_le, workload_of_le, workload_of_mono, cost_le_workload_of, demand_of_none, demand_of_idle, demand_of_quiet}
 

@@ -1,4 +1,4 @@
-use Rattle.std.proofs.Common.{refl, sym, ap, subst, ◌+◌, ◌*◌}
+use Rattle.std.proofs.Common.{sym, ap, subst, ◌+◌, ◌*◌}
 use Rattle.admission.specs.Due.{NextOf}
 use Rattle.admission.proofs.Single.{due_after_next}
 use Rattle.admission.proofs.judge.task_deadline.Goals as goal

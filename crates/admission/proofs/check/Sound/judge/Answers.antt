@@ -1,4 +1,4 @@
-use Rattle.std.proofs.Common.{refl, sym, subst, MatchResult}
+use Rattle.std.proofs.Common.{refl, subst}
 use Rattle.std.proofs.lemmas.Result.{err_from_is_err_and}
 use Rattle.admission.specs.Until.{FitsUntil, RefusedBy}
 use Rattle.admission.proofs.Settled.{admitted, refused}

@@ -1,10 +1,10 @@
-use Rattle.std.proofs.Common.{◌≡◌, IsSome, Some, refl, sym, subst, ◌∙◌, rules, tests}
+use Rattle.std.proofs.Common.{IsSome, refl, sym, subst, ◌∙◌, rules, tests}
 use Rattle.std.proofs.lemmas.Iterator.{YieldsList-from_slice, YieldsList-from_map}
 use Rattle.std.proofs.lemmas.Iterator.Adapters.{serves_from_places, option_map_id}
 use Rattle.std.proofs.lemmas.Iterator.Consumers.{min_from_yields_List}
 use Rattle.admission.proofs.SoundFacts.{judgeable_if_sound}
 use Rattle.admission.proofs.Single.{due_after}
-use Rattle.admission.proofs.Several.{timed_at, deadlines, next_some, next_of}
+use Rattle.admission.proofs.Several.{timed_at, next_some, next_of}
 use Rattle.admission.proofs.check.Sound.next_deadline.Goals as goal
 
 pub min-requires-clause-can : goal.min-requires-clause-can

@@ -1,8 +1,8 @@
-use Rattle.std.proofs.Common.{◌∷◌, length, refl, reverse, ap, sym, ◌∙◌, Some, None, arith}
+use Rattle.std.proofs.Common.{◌∷◌, reverse, ap, sym, ◌∙◌, Some, arith}
 use lib.Bits.{bit_or}
 use Rattle.std.proofs.lemmas.List.{length-reverse, reverse-append}
 use Rattle.admission.specs.Stack.{open_of}
-use Rattle.admission.proofs.Entered.{sound_shallow, entered_none, entered_wrong, entered_some}
+use Rattle.admission.proofs.Entered.{sound_shallow, entered_wrong, entered_some}
 use Rattle.admission.proofs.path.Path.enter.Goals as goal
 
 pub push-requires : goal.push-requires

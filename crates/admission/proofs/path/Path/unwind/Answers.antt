@@ -1,4 +1,4 @@
-use Rattle.std.proofs.Common.{◌+◌, rules, refl, reverse, take, ap, sym, ◌∙◌, Some, None, arith}
+use Rattle.std.proofs.Common.{rules, reverse, take, ap, sym, ◌∙◌, Some}
 use Rattle.admission.specs.Sound.{unwound}
 use Rattle.admission.specs.Stack.{open_of}
 use Rattle.admission.proofs.Stacked.{unwound_none, unwound_at}
