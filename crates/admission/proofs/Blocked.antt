@@ -11,10 +11,6 @@ use Rattle.admission.specs.Due.{Due}
 use Rattle.admission.specs.Facts.{Timed, Owned, LevelOf, Leveled}
 use Rattle.admission.proofs.Several.{relative_due, due_pos, nth_all}
 
--- what stands past the end of a slice of sections
-abbrev pub no_section_lem : SectionRecord
-no_section_lem = record { task = 0; around = None; small = 0; capital = 0; length = 0; level = None }
-
 -- the lengths of the sections that can block, and the greatest of them
 abbrev pub lengths_of : List TaskRecord → ℕ → List SectionRecord → List ℕ
 lengths_of tasks t ss = map (λ (s : SectionRecord). s.length) (filter (λ s. blocks tasks s t) ss)

@@ -1,33 +1,25 @@
 -- The next section of a task: it is opened, or it breaks a rule.
-use Rattle.std.proofs.Common.{◌≡◌, ℕ, ◌+◌, ◌<◌, Bool, true, false, cond, ◌&&◌, eqb, leb, List, ◌∷◌, length, Some, None, Option, refl, ap, ◌∙◌}
+use Rattle.std.proofs.Common.{◌≡◌, ℕ, ◌+◌, ◌<◌, Bool, true, false, cond, ◌&&◌, eqb, leb, List, ◌∷◌, length, Some, None, Option, refl, ap, ◌∙◌, arith}
 use lib.Bits.{bit_and, bit_or}
-use Rattle.std.proofs.lemmas.Bool.{and_parts, ltb-true, cond-true, cond-false}
+use Rattle.std.proofs.lemmas.Bool.{cond-true, cond-false}
+use Rattle.std.proofs.lemmas.Bool.Decides.{nat_tests}
 use Rattle.table.specs.declared.records.SectionRecord.{SectionRecord}
 use Rattle.admission.specs.declared.path.Opened.{Opened}
 use Rattle.admission.specs.Sound.{unwound, longest, taken, letters_sound, roomy, section_sound, opening, sections_sound}
 use Rattle.admission.specs.Stack.{entered}
 
-module _ (cost : ℕ) (path : List Opened) (long : ℕ) (ok : roomy cost path long ≡ true) where
-  pub roomy_short : leb long (longest cost path) ≡ true
-  roomy_short = (and_parts (leb long (longest cost path)) _ (and_parts (leb 1 long) _ ok).1).0
-
-  roomy_shallow : length path < 8
-  roomy_shallow = ltb-true _ _ (and_parts (leb long (longest cost path)) _ (and_parts (leb 1 long) _ ok).1).1
+pub roomy_short : (cost : ℕ) (path : List Opened) (long : ℕ) → roomy cost path long ≡ true → leb long (longest cost path) ≡ true
+roomy_short cost path long ok = grind (arith, nat_tests)
 
 module _ (k cost : ℕ) (path : List Opened) (s : SectionRecord) (ok : section_sound k cost path s ≡ true) where
-  sound_rest : (letters_sound s.small s.capital && (eqb (bit_and (bit_or s.small s.capital) (taken path)) 0 && roomy cost path s.length)) ≡ true
-  sound_rest = (and_parts (eqb s.task k) _ ok).1
-
   pub sound_owner : eqb s.task k ≡ true
-  sound_owner = (and_parts (eqb s.task k) _ ok).0
+  sound_owner = grind (arith, nat_tests)
 
   pub sound_roomy : roomy cost path s.length ≡ true
-  sound_roomy =
-      (and_parts (eqb (bit_and (bit_or s.small s.capital) (taken path)) 0) _
-      (and_parts (letters_sound s.small s.capital) _ sound_rest).1).1
+  sound_roomy = grind (arith, nat_tests)
 
   pub sound_shallow : length path < 8
-  sound_shallow = roomy_shallow cost path s.length sound_roomy
+  sound_shallow = grind (arith, nat_tests)
 
 -- what is left open, if the next section stands inside something open
 abbrev after : ℕ → ℕ → ℕ → SectionRecord → Option (List Opened) → Option (List Opened)

@@ -1,8 +1,11 @@
 -- Several tasks: what they ask for together, and when one of them is due.
-use Rattle.std.proofs.Common.{true, map, fold, sum_by, sym, ◌≡◌, ℕ, zero, suc, ◌+◌, ◌-◌, ◌*◌, ◌<◌, ◌≤◌, min, ◌⊎◌, List, [], ◌∷◌, length, get_or, Some, refl, ap, subst, inl, inr, arith}
+use Rattle.std.proofs.Common.{true, map, fold, sum_by, sym, ◌≡◌, ℕ, zero, suc, ◌+◌, ◌-◌, ◌*◌, ◌<◌, ◌≤◌, min, ◌⊎◌, List, [], ◌∷◌, length, get_or, drop, Some, refl, ap, subst, inl, inr, arith}
 use Rattle.std.specs.List.{AllByRecursion, slice_get, reduce}
 use Rattle.std.proofs.ByRecursion.{All-get_or}
+use Rattle.std.proofs.lemmas.List.{at_drop_more}
 use Rattle.std.proofs.lemmas.List.Recursion.{is_sum_by}
+use Rattle.std.proofs.lemmas.List.Sums.{sum_by-cons}
+use Rattle.std.proofs.lemmas.Option.{get_or_from_slice_get, slice_get_within}
 use Rattle.admission.specs.Sound.{sound}
 use Rattle.table.specs.declared.records.SectionRecord.{SectionRecord}
 use Rattle.admission.proofs.SoundFacts.{judgeable_if_sound}
@@ -14,13 +17,31 @@ use Rattle.admission.specs.Due.{DueOf, Due, Next}
 use Rattle.admission.specs.Facts.{Timed}
 use Rattle.admission.proofs.Single.{due_after, due_after_next, demand_of_le, workload_of_le, workload_of_mono, cost_le_workload_of, demand_of_none, demand_of_idle, demand_of_quiet}
 
-pub demand_le : (ks : List TaskRecord) (t : ℕ) → t ≤ 1048576 → AllByRecursion Timed ks → demand ks t ≤ length ks * 2097152
-demand_le [] t h a = omega arith
-demand_le (k ∷ ks) t h a = omega (arith, demand_of_le k a.0 t, a.0.near, demand_le ks t h a.1)
+-- what stands past the end of a slice of tasks
+abbrev pub no_task_lem : TaskRecord
+no_task_lem = record { name = record { first = 0; count = 0 }; deadline = 0; period = 0; cost = 0; sections = record { first = 0; count = 0 } }
 
-pub workload_le : (ks : List TaskRecord) (t : ℕ) → t ≤ 1048576 → AllByRecursion Timed ks → workload ks t ≤ length ks * 2097152
-workload_le [] t h a = omega arith
-workload_le (k ∷ ks) t h a = omega (arith, workload_of_le k a.0 t, a.0.near, workload_le ks t h a.1)
+-- one more task
+pub demand_more : (ks : List TaskRecord) (i t : ℕ) → i < length ks → demand (drop i ks) t ≡ demand_of (get_or ks i no_task_lem) t + demand (drop (i + 1) ks) t
+demand_more ks i t h = at_drop_more (λ l. demand l t) ks i no_task_lem h
+
+-- demand and workload as sums of std
+pub demand_is : (ks : List TaskRecord) (t : ℕ) → demand ks t ≡ sum_by (λ k. demand_of k t) ks
+demand_is ks t = is_sum_by (λ l. demand l t) (λ k. demand_of k t) refl (λ _ _. refl) ks
+
+pub workload_is : (ks : List TaskRecord) (t : ℕ) → workload ks t ≡ sum_by (λ k. workload_of k t) ks
+workload_is ks t = is_sum_by (λ l. workload l t) (λ k. workload_of k t) refl (λ _ _. refl) ks
+
+-- a sum over tasks each of which asks for no more than the time up to an instant and its period
+module _ (f : TaskRecord → ℕ) (t : ℕ) (near : t ≤ 1048576) (le : (k : TaskRecord) → Timed k → f k ≤ t + k.period) where
+  pub sum_le : (ks : List TaskRecord) → AllByRecursion Timed ks → sum_by f ks ≤ length ks * 2097152
+  sum_le [] a = omega arith
+  sum_le (k ∷ ks) a = omega (arith, sum_by-cons f k ks, le k a.0, a.0.near, sum_le ks a.1)
+
+  pub sum_fits : (ks : List TaskRecord) (ss : List SectionRecord) → sound ks ss ≡ true → sum_by f ks < 4294967296
+  sum_fits ks ss ok =
+      let all = judgeable_if_sound ks ss ok in
+      omega (arith, sum_le ks all.timed, all.few)
 
 pub workload_mono : (ks : List TaskRecord) (t u : ℕ) → t ≤ u → AllByRecursion Timed ks → workload ks t ≤ workload ks u
 workload_mono [] t u h a = omega arith
@@ -114,9 +135,7 @@ module _ (t : ℕ) where
   next_some (k ∷ ks) h = (fold min (due_after k t) (deadlines ks), refl)
 
 pub nth_all : {X : Type 0} (P : X → Type 0) (xs : List X) (i : ℕ) (x : X) → slice_get xs i ≡ Some x → AllByRecursion P xs → P x
-nth_all P [] i x e a = let z : ◌≡◌ {A = ℕ} 0 1 = cc in absurd (omega arith)
-nth_all P (y ∷ ys) zero x e a = let same : y ≡ x = cc in subst P same a.0
-nth_all P (y ∷ ys) (suc i) x e a = nth_all P ys i x e a.1
+nth_all P xs i x e a = subst P (get_or_from_slice_get xs i x x e) (All-get_or P xs i x (slice_get_within xs i x e) a)
 
 -- each task of records that break no rule
 pub timed_at :
@@ -124,21 +143,3 @@ pub timed_at :
     → (k : TaskRecord) (i : ℕ) → i < length ks → k ≡ get_or ks i k → Timed k
 timed_at ks ss ok k i h is =
     subst Timed (sym is) (All-get_or Timed ks i k h (judgeable_if_sound ks ss ok).timed)
-
--- sums over the tasks, as std has them
-pub demand_is : (ks : List TaskRecord) (t : ℕ) → demand ks t ≡ sum_by (λ k. demand_of k t) ks
-demand_is ks t = is_sum_by (λ l. demand l t) (λ k. demand_of k t) refl (λ _ _. refl) ks
-
-pub workload_is : (ks : List TaskRecord) (t : ℕ) → workload ks t ≡ sum_by (λ k. workload_of k t) ks
-workload_is ks t = is_sum_by (λ l. workload l t) (λ k. workload_of k t) refl (λ _ _. refl) ks
-
-module _ (ks : List TaskRecord) (ss : List SectionRecord) (ok : sound ks ss ≡ true) (t : ℕ) (near : t ≤ 1048576) where
-  pub demand_fits : sum_by (λ k. demand_of k t) ks < 4294967296
-  demand_fits =
-      let all = judgeable_if_sound ks ss ok in
-      omega (arith, demand_is ks t, demand_le ks t near all.timed, all.few)
-
-  pub workload_fits : sum_by (λ k. workload_of k t) ks < 4294967296
-  workload_fits =
-      let all = judgeable_if_sound ks ss ok in
-      omega (arith, workload_is ks t, workload_le ks t near all.timed, all.few)

@@ -2,6 +2,7 @@
 use Rattle.std.proofs.Common.{◌≡◌, ℕ, ◌+◌, ◌<◌, ◌≤◌, true, false, ◌&&◌, eqb, leb, List, [], ◌∷◌, length, get_or, take, drop, Some, None, Option, sym, refl, ap, ◌∙◌, subst, arith}
 use Rattle.std.specs.List.{AllByRecursion, slice_get}
 use Rattle.std.proofs.lemmas.Bool.{false≢true, and_parts, leb-true, eqb-true, cond_both}
+use Rattle.std.proofs.lemmas.Bool.Decides.{nat_tests}
 use Rattle.std.proofs.lemmas.List.{drop_more, length-drop, take-append-drop}
 use Rattle.std.proofs.ByRecursion.{All-append, All-weaker}
 use Rattle.std.proofs.lemmas.Option.{slice_get-get_or}
@@ -17,39 +18,29 @@ use Rattle.admission.proofs.Runs.{sound_times, sound_sections}
 
 -- the parts of the check
 module _ (ts : List TaskRecord) (ss : List SectionRecord) (ok : sound ts ss ≡ true) where
-  past_some : (leb (length ts) 32 && (leb (length ss) 64 && (tasks_sound 0 0 ts ss && levels_sound ts ss ss))) ≡ true
-  unfolding sound
-  past_some = (and_parts (leb 1 (length ts)) _ ok).1
-
-  past_few : (leb (length ss) 64 && (tasks_sound 0 0 ts ss && levels_sound ts ss ss)) ≡ true
-  past_few = (and_parts (leb (length ts) 32) _ past_some).1
-
-  past_short : (tasks_sound 0 0 ts ss && levels_sound ts ss ss) ≡ true
-  past_short = (and_parts (leb (length ss) 64) _ past_few).1
-
   some_tasks : 1 ≤ length ts
   unfolding sound
-  some_tasks = leb-true _ _ (and_parts (leb 1 (length ts)) _ ok).0
+  some_tasks = grind (arith, nat_tests)
 
   few_tasks : length ts ≤ 32
-  few_tasks = leb-true _ _ (and_parts (leb (length ts) 32) _ past_some).0
+  unfolding sound
+  few_tasks = grind (arith, nat_tests)
 
   pub few_sections : length ss ≤ 64
-  few_sections = leb-true _ _ (and_parts (leb (length ss) 64) _ past_few).0
+  unfolding sound
+  few_sections = grind (arith, nat_tests)
 
-  tasks_part : tasks_sound 0 0 ts ss ≡ true
-  tasks_part = (and_parts (tasks_sound 0 0 ts ss) _ past_short).0
+  pub tasks_part : tasks_sound 0 0 ts ss ≡ true
+  unfolding sound
+  tasks_part = grind (arith, nat_tests)
 
-  levels_part : levels_sound ts ss ss ≡ true
-  levels_part = (and_parts (tasks_sound 0 0 ts ss) _ past_short).1
+  pub levels_part : levels_sound ts ss ss ≡ true
+  unfolding sound
+  levels_part = grind (arith, nat_tests)
 
 -- a task's times
 timed : (t : TaskRecord) → times_sound t ≡ true → Timed t
-timed t ok =
-    let a = and_parts (leb 1 t.cost) _ ok in
-    let b = and_parts (leb t.cost t.deadline) _ a.1 in
-    let c = and_parts (leb t.deadline t.period) _ b.1 in
-    record { works = leb-true _ _ a.0; early = leb-true _ _ b.0; cyclic = leb-true _ _ c.0; near = leb-true _ _ c.1 }
+timed t ok = record { works = grind (arith, nat_tests); early = grind (arith, nat_tests); cyclic = grind (arith, nat_tests); near = grind (arith, nat_tests) }
 
 all_timed : (k n : ℕ) (ts : List TaskRecord) (ss : List SectionRecord) → tasks_sound k n ts ss ≡ true → AllByRecursion Timed ts
 all_timed k n [] ss ok = tt
@@ -133,7 +124,7 @@ all_owned all k n (t ∷ ts) ss at ok =
     (All-append (Owned all) (take count ss) (drop count ss) (All-weaker (Mine k t.cost) (Owned all) (owned_here all k t ts at) (take count ss) own) later)
 
 -- levels
-same_level_lem : (a b : Option ℕ) → same_level a b ≡ true → a ≡ b
+pub same_level_lem : (a b : Option ℕ) → same_level a b ≡ true → a ≡ b
 same_level_lem None None ok = refl
 same_level_lem None (Some y) ok = absurd (false≢true ok)
 same_level_lem (Some x) None ok = absurd (false≢true ok)
