@@ -1,5 +1,5 @@
 -- The next section of a task: it is opened, or it breaks a rule.
-use Rattle.std.proofs.Common.{◌≡◌, ℕ, ◌+◌, ◌<◌, Bool, true, false, cond, ◌&&◌, eqb, leb, List, ◌∷◌, length, Some, None, Option, refl, ap, ◌∙◌, arith}
+use Rattle.std.proofs.Common.{◌≡◌, ℕ, ◌+◌, ◌^◌, ◌<◌, ◌≤◌, Bool, true, false, cond, ◌&&◌, eqb, leb, List, ◌∷◌, length, Some, None, Option, refl, ap, ◌∙◌, arith}
 use lib.Bits.{bit_and, bit_or}
 use Rattle.std.proofs.lemmas.Bool.{cond-true, cond-false}
 use Rattle.std.proofs.lemmas.Bool.Decides.{nat_tests}
@@ -7,19 +7,30 @@ use Rattle.table.specs.declared.records.SectionRecord.{SectionRecord}
 use Rattle.admission.specs.declared.path.Opened.{Opened}
 use Rattle.admission.specs.Sound.{unwound, longest, taken, letters_sound, roomy, section_sound, opening, sections_sound}
 use Rattle.admission.specs.Stack.{entered}
+use Rattle.admission.proofs.Apart.{Apart}
 
-pub roomy_short : (cost : ℕ) (path : List Opened) (long : ℕ) → roomy cost path long ≡ true → leb long (longest cost path) ≡ true
-roomy_short cost path long ok = grind (arith, nat_tests)
+-- what a section that keeps the rules keeps
+pub record SoundSection (k cost : ℕ) (path : List Opened) (s : SectionRecord) : Type 0 where
+  pub owner : s.task ≡ k
+  pub small : s.small < 2 ^ 26
+  pub capital : s.capital < 2 ^ 26
+  pub pair : Apart s.small s.capital
+  pub free : Apart (bit_or s.small s.capital) (taken path)
+  pub some : 1 ≤ s.length
+  pub short : s.length ≤ longest cost path
+  pub shallow : length path < 8
 
-module _ (k cost : ℕ) (path : List Opened) (s : SectionRecord) (ok : section_sound k cost path s ≡ true) where
-  pub sound_owner : eqb s.task k ≡ true
-  sound_owner = grind (arith, nat_tests)
-
-  pub sound_roomy : roomy cost path s.length ≡ true
-  sound_roomy = grind (arith, nat_tests)
-
-  pub sound_shallow : length path < 8
-  sound_shallow = grind (arith, nat_tests)
+pub sound_parts : (k cost : ℕ) (path : List Opened) (s : SectionRecord) → section_sound k cost path s ≡ true → SoundSection k cost path s
+sound_parts k cost path s ok = record {
+  owner = grind (arith, nat_tests);
+  small = grind (arith, nat_tests);
+  capital = grind (arith, nat_tests);
+  pair = grind (arith, nat_tests);
+  free = grind (arith, nat_tests);
+  some = grind (arith, nat_tests);
+  short = grind (arith, nat_tests);
+  shallow = grind (arith, nat_tests);
+}
 
 -- what is left open, if the next section stands inside something open
 abbrev after : ℕ → ℕ → ℕ → SectionRecord → Option (List Opened) → Option (List Opened)

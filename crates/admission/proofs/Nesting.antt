@@ -9,7 +9,7 @@ use Rattle.table.specs.declared.records.TaskRecord.{TaskRecord}
 use Rattle.table.specs.declared.records.SectionRecord.{SectionRecord}
 use Rattle.admission.specs.declared.path.Opened.{Opened}
 use Rattle.admission.specs.Sound.{unwound, longest, section_sound, opening, sections_sound, task_sound, tasks_sound, sound}
-use Rattle.admission.proofs.Entered.{sound_shallow}
+use Rattle.admission.proofs.Entered.{sound_parts}
 use Rattle.admission.proofs.SoundFacts.{tasks_part}
 use Rattle.admission.proofs.Runs.{sound_fits, sound_sections}
 
@@ -107,7 +107,7 @@ module _
   low_more (Some inside) placed ok =
       let parts = and_parts (section_sound k cost inside s) _ ok in
       let here = here_most all n s (ss ++ after) at inside placed in
-      low_join all n 1 (length ss) (length (s ∷ ss)) (omega arith) (low_one all n (length inside) here (sound_shallow k cost inside s parts.0))
+      low_join all n 1 (length ss) (length (s ∷ ss)) (omega arith) (low_one all n (length inside) here (sound_parts k cost inside s parts.0).shallow)
       (rest (opening n inside s ∷ inside) (here, placed.deep) parts.1)
 
 sections_low :

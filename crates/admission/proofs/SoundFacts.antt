@@ -13,7 +13,7 @@ use Rattle.admission.specs.declared.path.Opened.{Opened}
 use Rattle.admission.specs.Sound.{unwound, longest, section_sound, opening, sections_sound, times_sound, task_sound, tasks_sound, same_level, level_sound, levels_sound, sound}
 use Rattle.admission.specs.Facts.{Timed, Owned, LevelOf, Leveled, Judgeable}
 use Rattle.admission.proofs.Dues.{due_section}
-use Rattle.admission.proofs.Entered.{roomy_short, sound_owner, sound_roomy}
+use Rattle.admission.proofs.Entered.{sound_parts}
 use Rattle.admission.proofs.Runs.{sound_times, sound_sections}
 
 -- the parts of the check
@@ -71,10 +71,8 @@ short_longest cost (o ∷ path) all = all.0
 
 mine : (k cost : ℕ) (path : List Opened) (s : SectionRecord) → AllByRecursion (Short cost) path → section_sound k cost path s ≡ true → Mine k cost s
 mine k cost path s all ok =
-    let room = sound_roomy k cost path s ok in
-    let short = leb-true _ _ (roomy_short cost path s.length room) in
-    let most = short_longest cost path all in
-    (eqb-true _ _ (sound_owner k cost path s ok), omega arith)
+    let own = sound_parts k cost path s ok in
+    (own.owner, omega (arith, own.short, short_longest cost path all))
 
 -- one section of a task, and those after it
 module _

@@ -24,6 +24,7 @@ fn run_sound(owner: usize, cost: u32, first: usize, sections: &[SectionRecord]) 
     requires { first + length sections.now < 2 ^ 64 }
     ensures { result ≡ sections_sound owner cost first [] sections.now }
 {
+    // A loop: each section changes what is open around the next.
     let mut path = Path::new();
     for (i, section) in sections.iter().enumerate() {
         if path.enter(owner, cost, first + i, section).is_none() {
@@ -49,6 +50,7 @@ fn task_sound(number: usize, next: usize, task: &TaskRecord, rest: &[SectionReco
 fn tasks_sound(tasks: &[TaskRecord], sections: &[SectionRecord]) -> bool
     ensures { result ≡ tasks_sound 0 0 tasks.now sections.now }
 {
+    // A loop: where the sections of a task begin depends on all tasks before it.
     let mut next = 0;
     for (number, task) in tasks.iter().enumerate() {
         if !task_sound(number, next, task, &sections[next..]) {

@@ -2,14 +2,14 @@ use Rattle.std.proofs.Common.{◌∷◌, reverse, ap, sym, ◌∙◌, Some, arit
 use lib.Bits.{bit_or}
 use Rattle.std.proofs.lemmas.List.{length-reverse, reverse-append}
 use Rattle.admission.specs.Stack.{open_of}
-use Rattle.admission.proofs.Entered.{sound_shallow, entered_wrong, entered_some}
+use Rattle.admission.proofs.Entered.{sound_parts, entered_wrong, entered_some}
 use Rattle.admission.proofs.path.Path.enter.Goals as goal
 
 pub push-requires : goal.push-requires
 push-requires c =
     let opened = c.unwind.new.self.opened.items in
-    let shallow = sound_shallow c.args.owner c.args.cost (reverse opened) c.args.section.now (sym c.if-not-admits.ensures) in
-    (omega arith, omega (arith, length-reverse opened))
+    let own = sound_parts c.args.owner c.args.cost (reverse opened) c.args.section.now (sym c.if-not-admits.ensures) in
+    (omega arith, omega (arith, own.shallow, length-reverse opened))
 
 pub returns-then-not-admits : goal.returns-then-not-admits
 returns-then-not-admits c =
