@@ -11,7 +11,6 @@ pub mod Blocked
 pub mod Rises
 pub mod Beyond
 pub mod Same
-pub mod Settled
 pub mod Fine
 pub mod Spelled
 pub mod Nested
