@@ -1,11 +1,11 @@
 -- The next section of a task: it is opened, or it breaks a rule.
-use Rattle.std.proofs.Common.{◌≡◌, ℕ, ◌+◌, ◌^◌, ◌<◌, ◌≤◌, Bool, true, false, cond, ◌&&◌, eqb, leb, List, ◌∷◌, length, Some, None, Option, refl, ap, ◌∙◌, arith}
-use lib.Bits.{bit_and, bit_or}
+use Rattle.std.proofs.Common.{◌≡◌, ℕ, ◌+◌, ◌^◌, ◌<◌, ◌≤◌, Bool, true, false, cond, ◌&&◌, List, ◌∷◌, length, Some, None, Option, refl, ap, ◌∙◌, arith}
+use lib.Bits.{bit_or}
 use Rattle.std.proofs.lemmas.Bool.{cond-true, cond-false}
 use Rattle.std.proofs.lemmas.Bool.Decides.{nat_tests}
 use Rattle.table.specs.declared.records.SectionRecord.{SectionRecord}
 use Rattle.admission.specs.declared.path.Opened.{Opened}
-use Rattle.admission.specs.Sound.{unwound, longest, taken, letters_sound, roomy, section_sound, opening, sections_sound}
+use Rattle.admission.specs.Sound.{unwound, longest, taken, section_sound, opening, sections_sound}
 use Rattle.admission.specs.Stack.{entered}
 use Rattle.admission.proofs.Apart.{Apart}
 

@@ -1,7 +1,7 @@
 -- The items that say what records say, wherever they stand in a text; and that the reader finds no fault in them, and gets the records.
-use Rattle.std.proofs.Common.{◌≡◌, ℕ, suc, ◌+◌, ◌-◌, ◌%◌, ◌^◌, ◌<◌, ◌≤◌, true, ◌&&◌, eqb, ltb, leb, ◌⊎◌, List, [], ◌∷◌, map, length, None, Option, unwrap_or, sym, refl, ap, ◌∙◌, ⊎_elim, mod-eq_of_lt, arith}
-use lib.Bits.{bit_and, bit_or}
-use Rattle.std.proofs.lemmas.Bool.{and_parts, and_from, eqb-true, le-leb, lt-ltb, leb-true, ltb-true, cond-true}
+use Rattle.std.proofs.Common.{◌≡◌, ℕ, suc, ◌+◌, ◌-◌, ◌%◌, ◌^◌, ◌≤◌, true, ◌&&◌, ltb, leb, ◌⊎◌, List, [], ◌∷◌, map, length, None, Option, unwrap_or, sym, refl, ap, ◌∙◌, ⊎_elim, mod-eq_of_lt, arith}
+use lib.Bits.{bit_or}
+use Rattle.std.proofs.lemmas.Bool.{and_from, le-leb, lt-ltb, cond-true}
 use Rattle.table.specs.declared.line.Item.{Item}
 use Rattle.table.specs.declared.line.Item.TheVariants.{Open, Close}
 use Rattle.table.specs.declared.records.SectionRecord.{SectionRecord}
@@ -16,8 +16,8 @@ use Rattle.table.specs.Breach.{Fair}
 use Rattle.table.proofs.Parsed.{read, cases_fair, fair_ticks}
 use Rattle.table.proofs.Spotted.{letter_items}
 use Rattle.admission.specs.declared.path.Opened.{Opened}
-use Rattle.admission.specs.Sound.{longest, taken, section_sound, opening}
-use Rattle.admission.proofs.Apart.{Apart, apart_sym, parts_apart, Within}
+use Rattle.admission.specs.Sound.{taken, opening}
+use Rattle.admission.proofs.Apart.{apart_sym, parts_apart, Within}
 use Rattle.admission.proofs.Entered.{SoundSection}
 use Rattle.admission.proofs.Nested.{numbers, lengths, longest_is}
 use Rattle.admission.proofs.Digits.{numeral_of, numeral_value, numeral_fair}

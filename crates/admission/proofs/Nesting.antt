@@ -2,13 +2,13 @@
 -- one, are at most 8. The check walks through the sections with those that are open, and asks of each that it finds fewer than 8
 -- around it; here each open section is shown to have no more sections around it than the walk still has open beneath it, so the count
 -- that the check limits is the true one.
-use Rattle.std.proofs.Common.{◌≡◌, ℕ, ◌+◌, ◌<◌, ◌≤◌, true, false, ◌&&◌, eqb, leb, List, [], ◌∷◌, ◌++◌, length, get_or, take, drop, Some, None, Option, sym, refl, ap, ◌∙◌, subst, inl, inr, arith}
-use Rattle.std.proofs.lemmas.Bool.{false≢true, and_parts, ltb-true, eqb-true, cond_both, cases_lt}
+use Rattle.std.proofs.Common.{◌≡◌, ℕ, ◌+◌, ◌<◌, ◌≤◌, true, false, ◌&&◌, eqb, List, [], ◌∷◌, ◌++◌, length, get_or, take, drop, Some, None, Option, sym, refl, ap, ◌∙◌, subst, inl, inr, arith}
+use Rattle.std.proofs.lemmas.Bool.{false≢true, and_parts, eqb-true, cond_both, cases_lt}
 use Rattle.std.proofs.lemmas.List.{drop_more, drop-drop, length-drop, length-take-le, take-append-drop}
 use Rattle.table.specs.declared.records.TaskRecord.{TaskRecord}
 use Rattle.table.specs.declared.records.SectionRecord.{SectionRecord}
 use Rattle.admission.specs.declared.path.Opened.{Opened}
-use Rattle.admission.specs.Sound.{unwound, longest, section_sound, opening, sections_sound, task_sound, tasks_sound, sound}
+use Rattle.admission.specs.Sound.{unwound, section_sound, opening, sections_sound, task_sound, tasks_sound, sound}
 use Rattle.admission.proofs.Entered.{sound_parts}
 use Rattle.admission.proofs.SoundFacts.{tasks_part}
 use Rattle.admission.proofs.Runs.{sound_fits, sound_sections}

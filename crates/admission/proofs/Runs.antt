@@ -1,13 +1,12 @@
 -- One turn of each loop of the check.
-use Rattle.std.proofs.Common.{◌≡◌, ℕ, ◌+◌, ◌<◌, ◌≤◌, Bool, true, false, ◌&&◌, eqb, leb, List, [], ◌∷◌, length, get_or, take, drop, Some, None, Option, sym, refl, ap, ◌∙◌, arith}
+use Rattle.std.proofs.Common.{◌≡◌, ℕ, ◌+◌, ◌<◌, ◌≤◌, Bool, true, false, ◌&&◌, eqb, List, [], ◌∷◌, length, get_or, take, drop, Some, None, sym, refl, ap, ◌∙◌, arith}
 use Rattle.std.proofs.lemmas.List.{at_drop_more, at_drop_all, drop_more, drop-drop, length-drop}
-use Rattle.std.proofs.lemmas.Bool.{and_parts, leb-true, le-leb, eqb-false, ne_eqb}
+use Rattle.std.proofs.lemmas.Bool.{ne_eqb}
 use Rattle.std.proofs.lemmas.Bool.Decides.{nat_tests}
 use Rattle.table.specs.declared.records.TaskRecord.{TaskRecord}
 use Rattle.table.specs.declared.records.SectionRecord.{SectionRecord}
-use Rattle.table.specs.Level.{least_level, letter_levels}
 use Rattle.admission.specs.declared.path.Opened.{Opened}
-use Rattle.admission.specs.Sound.{sections_sound, same_level, level_sound, levels_sound, times_sound, task_sound, tasks_sound, sound}
+use Rattle.admission.specs.Sound.{sections_sound, times_sound, task_sound, tasks_sound}
 use Rattle.admission.specs.Stack.{entered}
 use Rattle.admission.proofs.Entered.{goes, sections_more}
 

@@ -15,7 +15,7 @@ use Rattle.table.specs.Level.{deadline_of}
 use Rattle.admission.specs.Demand.{demand_of, workload_of, demand, workload}
 use Rattle.admission.specs.Due.{DueOf, Due, Next}
 use Rattle.admission.specs.Facts.{Timed}
-use Rattle.admission.proofs.Single.{due_after, due_after_next, demand_of_le, workload_of_le, workload_of_mono, cost_le_workload_of, demand_of_none, demand_of_idle, demand_of_quiet}
+use Rattle.admission.proofs.Single.{due_after, due_after_next, workload_of_mono, cost_le_workload_of, demand_of_none, demand_of_idle, demand_of_quiet}
 
 -- what stands past the end of a slice of tasks
 abbrev pub no_task_lem : TaskRecord

@@ -1,13 +1,13 @@
 -- Records that break no rule are read from the text that is written from them.
-use Rattle.std.proofs.Common.{◌≡◌, ℕ, zero, suc, ◌≤◌, true, cond, ◌&&◌, leb, List, [], ◌∷◌, map, length, Some, None, Ok, Option, sym, refl, ap, ◌∙◌}
+use Rattle.std.proofs.Common.{◌≡◌, ℕ, zero, suc, ◌≤◌, true, cond, List, [], ◌∷◌, map, length, None, Ok, sym, refl, ap, ◌∙◌}
 use Rattle.std.specs.List.{range_with_len}
-use Rattle.std.proofs.lemmas.Bool.{and_parts, leb-true, eqb-true, false≢true}
+use Rattle.std.proofs.lemmas.Bool.{and_parts}
 use Rattle.table.specs.declared.records.TaskRecord.{TaskRecord}
 use Rattle.table.specs.declared.records.SectionRecord.{SectionRecord}
 use Rattle.table.specs.Level.{names, deadline_of, lesser, letter_level, letter_levels, least_level}
 use Rattle.table.specs.Judged.{judged}
 use Rattle.table.specs.Record.{leveled, text_tasks, bare_sections, text_sections}
-use Rattle.admission.specs.Sound.{same_level, level_sound, levels_sound, tasks_sound, sound}
+use Rattle.admission.specs.Sound.{level_sound, levels_sound, tasks_sound, sound}
 use Rattle.admission.specs.Facts.{Judgeable}
 use Rattle.admission.specs.Origin.{nameless, Alike, counted}
 use Rattle.admission.proofs.SoundFacts.{judgeable_if_sound, few_sections, tasks_part, levels_part, same_level_lem}

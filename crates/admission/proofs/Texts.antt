@@ -2,7 +2,7 @@
 use Rattle.std.proofs.Common.{◌≡◌, ℕ, suc, ◌+◌, ◌*◌, ◌<◌, ◌≤◌, true, eqb, ltb, List, [], ◌∷◌, ◌++◌, map, length, take, drop, Ok, sym, refl, ap, ◌∙◌, arith}
 use Rattle.std.specs.List.{AllByRecursion}
 use Rattle.std.proofs.lemmas.Bool.Decides.{nat_tests}
-use Rattle.std.proofs.lemmas.Bool.{and_parts, cond-false, eqb-true, le-ltb, ne_eqb, false≢true}
+use Rattle.std.proofs.lemmas.Bool.{and_parts, cond-false, le-ltb, ne_eqb, false≢true}
 use Rattle.std.proofs.lemmas.List.{map-append, length-append, length-take-le, length-drop, take-append-drop}
 use Rattle.table.specs.declared.records.Counts.{Counts}
 use Rattle.table.specs.declared.records.TaskRecord.{TaskRecord}
@@ -19,7 +19,7 @@ use Rattle.table.specs.Breach.{count}
 use Rattle.table.proofs.Turns.{go_on}
 use Rattle.table.proofs.Rendered.{one_line}
 use Rattle.table.proofs.Sectioned.{opens_line}
-use Rattle.admission.specs.Sound.{sections_sound, times_sound, task_sound, tasks_sound}
+use Rattle.admission.specs.Sound.{sections_sound, task_sound, tasks_sound}
 use Rattle.admission.specs.Facts.{Timed}
 use Rattle.admission.specs.Origin.{nameless}
 use Rattle.admission.proofs.Runs.{sound_fits, sound_sections}
