@@ -1,7 +1,6 @@
 -- The next section of a task: it is opened, or it breaks a rule.
-use Rattle.std.proofs.Common.{◌≡◌, ℕ, ◌+◌, ◌^◌, ◌<◌, ◌≤◌, Bool, true, false, cond, ◌&&◌, List, ◌∷◌, length, Some, None, Option, refl, ap, ◌∙◌, arith}
+use Rattle.std.proofs.Common.{◌≡◌, ℕ, ◌+◌, ◌^◌, ◌<◌, ◌≤◌, Bool, true, false, cond, ◌&&◌, List, ◌∷◌, length, Some, None, Option, refl, arith}
 use lib.Bits.{bit_or}
-use Rattle.std.proofs.lemmas.Bool.{cond-true, cond-false}
 use Rattle.std.proofs.lemmas.Bool.Decides.{nat_tests}
 use Rattle.table.specs.declared.records.SectionRecord.{SectionRecord}
 use Rattle.admission.specs.declared.path.Opened.{Opened}
@@ -35,16 +34,6 @@ sound_parts k cost path s ok = record {
 -- what is left open, if the next section stands inside something open
 abbrev after : ℕ → ℕ → ℕ → SectionRecord → Option (List Opened) → Option (List Opened)
 after k cost n s o = elim o [ None ↦ None | Some inside ↦ cond (section_sound k cost inside s) (Some (opening n inside s ∷ inside)) None ]
-
-module _ (k cost n : ℕ) (path : List Opened) (s : SectionRecord) where
-  pub entered_none : unwound s.around path ≡ None → entered k cost n path s ≡ None
-  entered_none e = ap (after k cost n s) e
-
-  pub entered_wrong : (inside : List Opened) → unwound s.around path ≡ Some inside → section_sound k cost inside s ≡ false → entered k cost n path s ≡ None
-  entered_wrong inside e wrong = ap (after k cost n s) e ∙ cond-false (section_sound k cost inside s) _ _ wrong
-
-  pub entered_some : (inside : List Opened) → unwound s.around path ≡ Some inside → section_sound k cost inside s ≡ true → entered k cost n path s ≡ Some (opening n inside s ∷ inside)
-  entered_some inside e good = ap (after k cost n s) e ∙ cond-true (section_sound k cost inside s) _ _ good
 
 -- the sections that follow, where these are open, if the one before them broke no rule
 abbrev pub goes : ℕ → ℕ → ℕ → List SectionRecord → Option (List Opened) → Bool

@@ -11,9 +11,6 @@ returns-in_err-rposition-in-Some c =
     (ap (λ a. unwound a (open_of c.args.self.now)) c.in-Some.is
     ∙ unwound_none c.in-Some.number c.args.self.now.opened.items (search rules))
 
-pub overflow_add-depth : goal.overflow_add-depth
-overflow_add-depth c = search rules
-
 pub returns : goal.returns
 returns c =
     let items = c.args.self.now.opened.items in
