@@ -1,6 +1,6 @@
 //! What the tasks of a table ask for by an instant, and how long a section can hold them up.
 ghost use Rattle.std.specs.Prelude.{◌≡◌, ◌+◌, ◌-◌, ◌/◌, ◌≤◌};
-ghost use Rattle.admission.specs.Demand.{demand, workload, reaches, later, blocks, blocking};
+ghost use Rattle.admission.specs.Demand.{demand, workload, blocks, blocking};
 ghost use Rattle.admission.specs.Facts.{Timed};
 
 use crate::check::Sound;
@@ -15,20 +15,6 @@ pub(crate) fn jobs(task: &TaskRecord, first: u32, t: Instant) -> u32
     ensures { result ≡ (t.ticks + task.now.period - first) / task.now.period }
 {
     (t.ticks + task.period - first) / task.period
-}
-
-/// Whether a level is at most `t`; no level is above every number.
-fn is_reached(level: Option<u32>, t: u32) -> bool
-    ensures { result ≡ reaches level t }
-{
-    level.is_some_and(|level| level <= t)
-}
-
-/// Whether a relative deadline is past `t`.
-fn is_later(deadline: Option<u32>, t: u32) -> bool
-    ensures { result ≡ later deadline t }
-{
-    deadline.is_some_and(|deadline| t < deadline)
 }
 
 impl Sound<'_> {
@@ -52,12 +38,13 @@ impl Sound<'_> {
             .sum()
     }
 
-    /// Whether a section can hold up jobs that are due by `t`: its level is at most `t`, and its own task's D is past `t`.
+    /// Whether a section can hold up jobs that are due by `t`: its level is at most `t`, and its own task's D is past `t`. Where there
+    /// is no level, it counts as above every number.
     fn can_block(&self, section: &SectionRecord, t: Instant) -> bool
         ensures { result ≡ blocks self.now.tasks.now section.now t.ticks }
     {
-        is_reached(section.level, t.ticks)
-            && is_later(deadline_of(self.tasks, section.task), t.ticks)
+        section.level.is_some_and(|level| level <= t.ticks)
+            && deadline_of(self.tasks, section.task).is_some_and(|deadline| t.ticks < deadline)
     }
 
     /// The greatest length of a section that can hold up jobs that are due by `t`; 0 if none can.
