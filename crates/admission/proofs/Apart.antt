@@ -1,7 +1,9 @@
 -- Sets of letters that have no letter in common.
-use Rattle.std.proofs.Common.{◌≡◌, ℕ, ◌+◌, ◌*◌, ◌/◌, ◌%◌, min, max, refl, ap, ◌∙◌, arith}
-use lib.Arith.{bin_ind}
-use lib.Bits.{bit_and, bit_or, and_step, and_comm, and_zero_r, or_shr, or_step}
+use Rattle.std.proofs.Common.{◌≡◌, ℕ, min, max, sym, ap, ◌∙◌, arith}
+use lib.Bits.{bit_and, bit_or, and_comm, and_zero_r}
+use Rattle.std.specs.Int.{bit_at}
+use Rattle.std.proofs.lemmas.Nat.{and_or_apart}
+use Rattle.std.proofs.lemmas.Nat.Bits.{bit_at-zero, bit_at_and, bit_at_or, same_from_bits}
 
 abbrev pub Apart : ℕ → ℕ → Type 0
 Apart a b = bit_and a b ≡ 0
@@ -12,34 +14,19 @@ apart_sym a b h = and_comm b a ∙ h
 pub apart_none : (a : ℕ) → Apart a 0
 apart_none a = and_zero_r a
 
--- what a set and another have in common, digit by digit
-both_digits : (a b c : ℕ) → bit_and (bit_or a b) c ≡ bit_and (bit_or (a / 2) (b / 2)) (c / 2) * 2 + min (max (a % 2) (b % 2)) (c % 2)
-both_digits a b c =
-    let low : bit_or a b % 2 ≡ max (a % 2) (b % 2) = omega (arith, or_step a b) in
-    and_step (bit_or a b) c ∙ ap (λ x. bit_and x (c / 2) * 2 + min (bit_or a b % 2) (c % 2)) (or_shr a b 1)
-    ∙ ap (λ x. bit_and (bit_or (a / 2) (b / 2)) (c / 2) * 2 + min x (c % 2)) low
-
-abbrev Joins : ℕ → Type 0
-Joins a = (b c : ℕ) → Apart a c → Apart b c → Apart (bit_or a b) c
-
-abbrev Parts : ℕ → Type 0
-Parts a = (b c : ℕ) → Apart (bit_or a b) c → Apart a c × Apart b c
-
-joins_more : (a : ℕ) → Joins (a / 2) → Joins a
-joins_more a ih b c p q =
-    let down = ih (b / 2) (c / 2) (omega (arith, and_step a c)) (omega (arith, and_step b c)) in
-    omega (arith, both_digits a b c, and_step a c, and_step b c)
-
-parts_more : (a : ℕ) → Parts (a / 2) → Parts a
-parts_more a ih b c p =
-    let down = ih (b / 2) (c / 2) (omega (arith, both_digits a b c)) in
-    (omega (arith, both_digits a b c, and_step a c, down.0), omega (arith, both_digits a b c, and_step b c, down.1))
-
 pub apart_or : (a b c : ℕ) → Apart a c → Apart b c → Apart (bit_or a b) c
-apart_or a = bin_ind Joins (λ b c p q. q) joins_more a
+apart_or a b c p q = and_or_apart c a b q ∙ p
+
+-- what has no bit is nothing
+bare : (x : ℕ) → ((i : ℕ) → bit_at x i ≡ 0) → x ≡ 0
+bare x none = same_from_bits x 0 (λ i. none i ∙ sym (bit_at-zero i))
 
 pub apart_parts : (a b c : ℕ) → Apart (bit_or a b) c → Apart a c × Apart b c
-apart_parts a = bin_ind Parts (λ b c p. (refl, p)) parts_more a
+apart_parts a b c p =
+    let at : (i : ℕ) → min (max (bit_at a i) (bit_at b i)) (bit_at c i) ≡ 0 = λ i. ap (λ x. min x (bit_at c i)) (sym (bit_at_or a b i)) ∙ sym (bit_at_and (bit_or a b) c i) ∙ ap (λ x. bit_at x i) p ∙ bit_at-zero i in (
+      bare (bit_and a c) (λ i. omega (arith, at i, bit_at_and a c i)),
+      bare (bit_and b c) (λ i. omega (arith, at i, bit_at_and b c i)),
+    )
 
 -- the same on the other side
 pub or_apart : (c a b : ℕ) → Apart c a → Apart c b → Apart c (bit_or a b)

@@ -1,7 +1,6 @@
 -- Blocking: the longest section that can hold up jobs due by an instant.
-use Rattle.std.proofs.Common.{◌≡◌, ℕ, ◌+◌, ◌<◌, ◌≤◌, max, true, false, cond, ◌⊎◌, List, [], ◌∷◌, length, get_or, drop, Some, None, Option, refl, ap, ◌∙◌, inl, inr, arith}
-use Rattle.std.proofs.lemmas.List.{at_drop_more}
-use Rattle.std.specs.List.{AllByRecursion}
+use Rattle.std.proofs.Common.{fold, map, filter, unwrap_or, ◌≡◌, ℕ, ◌+◌, ◌≤◌, max, true, false, cond, ◌⊎◌, List, [], ◌∷◌, Some, None, Option, refl, ap, ◌∙◌, inl, inr, arith}
+use Rattle.std.specs.List.{AllByRecursion, reduce}
 use Rattle.std.proofs.ByRecursion.{All-weaker}
 use Rattle.std.proofs.lemmas.Bool.{cond_both, cond-true, cond-false, cases_lt, le-leb, lt-leb, leb-true, lt-ltb, ltb-true, and_parts, and_from, and_left}
 use Rattle.table.specs.declared.records.TaskRecord.{TaskRecord}
@@ -12,20 +11,25 @@ use Rattle.admission.specs.Due.{Due}
 use Rattle.admission.specs.Facts.{Timed, Owned, LevelOf, Leveled}
 use Rattle.admission.proofs.Several.{relative_due, due_pos, nth_all}
 
--- what stands past the end of a slice of sections
-abbrev pub no_section_lem : SectionRecord
-no_section_lem = record { task = 0; around = None; small = 0; capital = 0; length = 0; level = None }
+-- the lengths of the sections that can block, and the greatest of them
+abbrev pub lengths_of : List TaskRecord → ℕ → List SectionRecord → List ℕ
+lengths_of tasks t ss = map (λ (s : SectionRecord). s.length) (filter (λ s. blocks tasks s t) ss)
 
--- one more section
-module _ (tasks : List TaskRecord) (ss : List SectionRecord) (i t : ℕ) (h : i < length ss) where
-  more : blocking tasks (drop i ss) t ≡ max (cond (blocks tasks (get_or ss i no_section_lem) t) (get_or ss i no_section_lem).length 0) (blocking tasks (drop (i + 1) ss) t)
-  more = at_drop_more (λ l. blocking tasks l t) ss i no_section_lem h
+greatest : (tasks : List TaskRecord) (t : ℕ) (ss : List SectionRecord) (m : ℕ) → fold max m (lengths_of tasks t ss) ≡ max m (blocking tasks ss t)
+greatest tasks t [] m = omega arith
+greatest tasks t (s ∷ ss) m =
+    elim (blocks tasks s t) as (λ b. fold max m (map (λ (s : SectionRecord). s.length) (cond b (s ∷ filter (λ s. blocks tasks s t) ss) (filter (λ s. blocks tasks s t) ss))) ≡ max m (max (cond b s.length 0) (blocking tasks ss t))) [
+      | true ↦ omega (arith, greatest tasks t ss (max m s.length))
+      | false ↦ omega (arith, greatest tasks t ss m)
+    ]
 
-  pub blocking_look : blocks tasks (get_or ss i no_section_lem) t ≡ true → blocking tasks (drop i ss) t ≡ max (get_or ss i no_section_lem).length (blocking tasks (drop (i + 1) ss) t)
-  blocking_look e = more ∙ ap (λ b. max (cond b (get_or ss i no_section_lem).length 0) (blocking tasks (drop (i + 1) ss) t)) e
-
-  pub blocking_pass : blocks tasks (get_or ss i no_section_lem) t ≡ false → blocking tasks (drop i ss) t ≡ blocking tasks (drop (i + 1) ss) t
-  blocking_pass e = more ∙ ap (λ b. max (cond b (get_or ss i no_section_lem).length 0) (blocking tasks (drop (i + 1) ss) t)) e ∙ omega arith
+pub blocking_is : (tasks : List TaskRecord) (t : ℕ) (ss : List SectionRecord) → unwrap_or (reduce max (lengths_of tasks t ss)) 0 ≡ blocking tasks ss t
+blocking_is tasks t [] = refl
+blocking_is tasks t (s ∷ ss) =
+    elim (blocks tasks s t) as (λ b. unwrap_or (reduce max (map (λ (s : SectionRecord). s.length) (cond b (s ∷ filter (λ s. blocks tasks s t) ss) (filter (λ s. blocks tasks s t) ss)))) 0 ≡ max (cond b s.length 0) (blocking tasks ss t)) [
+      | true ↦ greatest tasks t ss s.length
+      | false ↦ omega (arith, blocking_is tasks t ss)
+    ]
 
 -- it is at most b where each section that can block is
 

@@ -14,7 +14,8 @@ use Rattle.admission.specs.declared.path.Opened.{Opened}
 use Rattle.admission.specs.Sound.{unwound, longest, section_sound, opening, sections_sound}
 use Rattle.admission.proofs.Nested.{numbers}
 use Rattle.admission.proofs.Digits.{numeral_of}
-use Rattle.admission.proofs.Itemed.{sound_parts, letters_for, Says, ends, closes, opens}
+use Rattle.admission.proofs.Entered.{sound_parts}
+use Rattle.admission.proofs.Itemed.{letters_for, Says, ends, closes, opens}
 
 -- a section, with how many stand around it
 pub record Node : Type 0 where

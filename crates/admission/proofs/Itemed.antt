@@ -1,7 +1,7 @@
 -- The items that say what records say, wherever they stand in a text; and that the reader finds no fault in them, and gets the records.
-use Rattle.std.proofs.Common.{◌≡◌, ℕ, suc, ◌+◌, ◌-◌, ◌%◌, ◌^◌, ◌<◌, ◌≤◌, true, ◌&&◌, eqb, ltb, leb, ◌⊎◌, List, [], ◌∷◌, map, length, None, Option, unwrap_or, sym, refl, ap, ◌∙◌, ⊎_elim, mod-eq_of_lt, arith}
-use lib.Bits.{bit_and, bit_or}
-use Rattle.std.proofs.lemmas.Bool.{and_parts, and_from, eqb-true, le-leb, lt-ltb, leb-true, ltb-true, cond-true}
+use Rattle.std.proofs.Common.{◌≡◌, ℕ, suc, ◌+◌, ◌-◌, ◌%◌, ◌^◌, ◌≤◌, true, ◌&&◌, ltb, leb, ◌⊎◌, List, [], ◌∷◌, map, length, None, Option, unwrap_or, sym, refl, ap, ◌∙◌, ⊎_elim, mod-eq_of_lt, arith}
+use lib.Bits.{bit_or}
+use Rattle.std.proofs.lemmas.Bool.{and_from, le-leb, lt-ltb, cond-true}
 use Rattle.table.specs.declared.line.Item.{Item}
 use Rattle.table.specs.declared.line.Item.TheVariants.{Open, Close}
 use Rattle.table.specs.declared.records.SectionRecord.{SectionRecord}
@@ -16,43 +16,13 @@ use Rattle.table.specs.Breach.{Fair}
 use Rattle.table.proofs.Parsed.{read, cases_fair, fair_ticks}
 use Rattle.table.proofs.Spotted.{letter_items}
 use Rattle.admission.specs.declared.path.Opened.{Opened}
-use Rattle.admission.specs.Sound.{longest, taken, section_sound, opening}
-use Rattle.admission.proofs.Apart.{Apart, apart_sym, parts_apart, Within}
+use Rattle.admission.specs.Sound.{taken, opening}
+use Rattle.admission.proofs.Apart.{apart_sym, parts_apart, Within}
+use Rattle.admission.proofs.Entered.{SoundSection}
 use Rattle.admission.proofs.Nested.{numbers, lengths, longest_is}
 use Rattle.admission.proofs.Digits.{numeral_of, numeral_value, numeral_fair}
 use Rattle.admission.proofs.Spelling.{spell, member_within}
 use Rattle.admission.proofs.Spelt.{NoLetter, pair, spelt, spelt_once}
-
--- what a section that keeps the rules keeps
-pub record Sound (k cost : ℕ) (path : List Opened) (s : SectionRecord) : Type 0 where
-  pub owner : s.task ≡ k
-  pub small : s.small < 2 ^ 26
-  pub capital : s.capital < 2 ^ 26
-  pub pair : Apart s.small s.capital
-  pub free : Apart (bit_or s.small s.capital) (taken path)
-  pub some : 1 ≤ s.length
-  pub short : s.length ≤ longest cost path
-  pub shallow : length path < 8
-
-pub sound_parts : (k cost : ℕ) (path : List Opened) (s : SectionRecord) → section_sound k cost path s ≡ true → Sound k cost path s
-sound_parts k cost path s ok =
-    let a = and_parts (eqb s.task k) _ ok in
-    let b = and_parts _ _ a.1 in
-    let ls = and_parts (ltb s.small (2 ^ 26)) _ b.0 in
-    let ms = and_parts (ltb s.capital (2 ^ 26)) _ ls.1 in
-    let c = and_parts (eqb (bit_and (bit_or s.small s.capital) (taken path)) 0) _ b.1 in
-    let d = and_parts (leb 1 s.length) _ c.1 in
-    let e = and_parts (leb s.length (longest cost path)) _ d.1 in
-    record {
-      owner = eqb-true _ _ a.0;
-      small = ltb-true _ _ ls.0;
-      capital = ltb-true _ _ ms.0;
-      pair = eqb-true _ _ ms.1;
-      free = eqb-true _ _ c.0;
-      some = leb-true _ _ d.0;
-      short = leb-true _ _ e.0;
-      shallow = ltb-true _ _ e.1;
-    }
 
 -- the letters of a section
 abbrev pub letters_for : SectionRecord → List (Byte Letter)
@@ -67,7 +37,7 @@ module _ (k cost : ℕ) where
   pub data Says : List Opened → ℕ → List SectionRecord → List Item → Type 0 where
     ends : {n : ℕ} → Says [] n [] []
     closes : {path : List Opened} {n : ℕ} {ss : List SectionRecord} {is : List Item} (o : Opened) → Says path n ss is → Says (o ∷ path) n ss (Close ∷ is)
-    opens : {path : List Opened} {n : ℕ} {ss : List SectionRecord} {is : List Item} (s : SectionRecord) (p q : ℕ) → s.around ≡ top (numbers path) → s.length ≤ largest → Sound k cost path s → Says (opening n path s ∷ path) (n + 1) ss is → Says path n (s ∷ ss) (Open (read p (numeral_of s.length)) ∷ letter_items q (letters_for s) is)
+    opens : {path : List Opened} {n : ℕ} {ss : List SectionRecord} {is : List Item} (s : SectionRecord) (p q : ℕ) → s.around ≡ top (numbers path) → s.length ≤ largest → SoundSection k cost path s → Says (opening n path s ∷ path) (n + 1) ss is → Says path n (s ∷ ss) (Open (read p (numeral_of s.length)) ∷ letter_items q (letters_for s) is)
 
 -- letters neither open nor close
 number_letters : (q : ℕ) (ls : List (Byte Letter)) (is : List Item) → number_fault (letter_items q ls is) ≡ number_fault is

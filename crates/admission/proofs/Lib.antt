@@ -1,4 +1,5 @@
 pub mod Dues
+pub mod Apart
 pub mod Stacked
 pub mod Entered
 pub mod Runs
@@ -10,8 +11,6 @@ pub mod Blocked
 pub mod Rises
 pub mod Beyond
 pub mod Same
-pub mod Settled
-pub mod Apart
 pub mod Fine
 pub mod Spelled
 pub mod Nested

@@ -2,14 +2,15 @@
 -- one, are at most 8. The check walks through the sections with those that are open, and asks of each that it finds fewer than 8
 -- around it; here each open section is shown to have no more sections around it than the walk still has open beneath it, so the count
 -- that the check limits is the true one.
-use Rattle.std.proofs.Common.{◌≡◌, ℕ, ◌+◌, ◌<◌, ◌≤◌, true, false, ◌&&◌, eqb, leb, List, [], ◌∷◌, ◌++◌, length, get_or, take, drop, Some, None, Option, sym, refl, ap, ◌∙◌, subst, inl, inr, arith}
-use Rattle.std.proofs.lemmas.Bool.{false≢true, and_parts, ltb-true, eqb-true, cond_both, cases_lt}
+use Rattle.std.proofs.Common.{◌≡◌, ℕ, ◌+◌, ◌<◌, ◌≤◌, true, false, ◌&&◌, eqb, List, [], ◌∷◌, ◌++◌, length, get_or, take, drop, Some, None, Option, sym, refl, ap, ◌∙◌, subst, inl, inr, arith}
+use Rattle.std.proofs.lemmas.Bool.{false≢true, and_parts, eqb-true, cond_both, cases_lt}
 use Rattle.std.proofs.lemmas.List.{drop_more, drop-drop, length-drop, length-take-le, take-append-drop}
 use Rattle.table.specs.declared.records.TaskRecord.{TaskRecord}
 use Rattle.table.specs.declared.records.SectionRecord.{SectionRecord}
 use Rattle.admission.specs.declared.path.Opened.{Opened}
-use Rattle.admission.specs.Sound.{unwound, longest, section_sound, opening, sections_sound, task_sound, tasks_sound, sound}
-use Rattle.admission.proofs.Entered.{sound_roomy}
+use Rattle.admission.specs.Sound.{unwound, section_sound, opening, sections_sound, task_sound, tasks_sound, sound}
+use Rattle.admission.proofs.Entered.{sound_parts}
+use Rattle.admission.proofs.SoundFacts.{tasks_part}
 use Rattle.admission.proofs.Runs.{sound_fits, sound_sections}
 
 abbrev no_section : SectionRecord
@@ -77,11 +78,6 @@ module _ (all : List SectionRecord) (n : ℕ) (s : SectionRecord) (ss : List Sec
   here_most : (inside : List Opened) → Placed all s.around inside → AtMost all n (length inside)
   here_most inside placed xs i = placed.around xs (sym i.1 ∙ ap (λ r. r.around) here_is) i.2
 
--- the check leaves room for one more
-shallow : (k cost : ℕ) (path : List Opened) (s : SectionRecord) → section_sound k cost path s ≡ true → length path < 8
-shallow k cost path s ok =
-    ltb-true _ _ (and_parts (leb s.length (longest cost path)) _ (and_parts (leb 1 s.length) _ (sound_roomy k cost path s ok)).1).1
-
 -- so many sections from number n on have at most 7 around them
 abbrev Low : List SectionRecord → ℕ → ℕ → Type 0
 Low all n count = (x : ℕ) → n ≤ x → x < n + count → AtMost all x 7
@@ -111,7 +107,7 @@ module _
   low_more (Some inside) placed ok =
       let parts = and_parts (section_sound k cost inside s) _ ok in
       let here = here_most all n s (ss ++ after) at inside placed in
-      low_join all n 1 (length ss) (length (s ∷ ss)) (omega arith) (low_one all n (length inside) here (shallow k cost inside s parts.0))
+      low_join all n 1 (length ss) (length (s ∷ ss)) (omega arith) (low_one all n (length inside) here (sound_parts k cost inside s parts.0).shallow)
       (rest (opening n inside s ∷ inside) (here, placed.deep) parts.1)
 
 sections_low :
@@ -136,14 +132,6 @@ tasks_low all k n (t ∷ ts) ss at ok =
     let later = tasks_low all (k + 1) (n + count) ts (drop count ss) (sym (drop-drop count n all) ∙ ap (drop count) at) parts.1 in
     let fits = sound_fits k n t ss parts.0 in
     low_join all n count (length (drop count ss)) (length ss) (omega (arith, length-drop count ss)) (subst (Low all n) (length-take-le count ss fits) own) later
-
-tasks_part : (ts : List TaskRecord) (ss : List SectionRecord) → sound ts ss ≡ true → tasks_sound 0 0 ts ss ≡ true
-unfolding sound
-tasks_part ts ss ok =
-    let some = and_parts (leb 1 (length ts)) _ ok in
-    let few = and_parts (leb (length ts) 32) _ some.1 in
-    let short = and_parts (leb (length ss) 64) _ few.1 in
-    (and_parts (tasks_sound 0 0 ts ss) _ short.1).0
 
 -- records that break no rule: at most 8 sections lie in one another
 pub nesting_within : (ts : List TaskRecord) (ss : List SectionRecord) → sound ts ss ≡ true → (xs : List ℕ) → Inside ss xs → length xs ≤ 8

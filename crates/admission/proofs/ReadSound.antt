@@ -1,7 +1,8 @@
 -- A table that is read breaks no rule as records.
 use Rattle.std.proofs.Common.{◌≡◌, ℕ, suc, ◌+◌, ◌≤◌, Bool, true, false, cond, ◌&&◌, eqb, leb, List, [], ◌∷◌, ◌++◌, map, length, drop, is_ok, Some, None, Ok, Option, sym, refl, ap, ◌∙◌, arith}
 use Rattle.std.specs.List.{range_with_len}
-use Rattle.std.proofs.lemmas.Bool.{and_parts, and_from, eq-eqb, le-leb}
+use Rattle.std.proofs.lemmas.Bool.{and_from, eq-eqb, le-leb}
+use Rattle.std.proofs.lemmas.Bool.Decides.{nat_tests}
 use Rattle.std.proofs.lemmas.List.{map-append, length-map, length-append, take_at, drop_at}
 use Rattle.table.specs.declared.records.Counts.{Counts}
 use Rattle.table.specs.declared.records.TaskRecord.{TaskRecord}
@@ -30,10 +31,9 @@ module _ (place n : ℕ) (line : List ℕ) (head : head_fault (head_of line) ≡
       let a = or_none (unreadable h.deadline) _ head in
       let b = or_none (unreadable h.period) (unreadable h.cost) a.1 in
       let t = (no_fault (leb (ticks_of h.cost) (ticks_of h.deadline) && leb (ticks_of h.deadline) (ticks_of h.period)) None 0 times).0 in
-      let p = and_parts (leb (ticks_of h.cost) (ticks_of h.deadline)) (leb (ticks_of h.deadline) (ticks_of h.period)) t in
       let cost = ranged_ticks h.cost (ranged_value (digit_run (drop (cost_at line) line))) b.1 in
       let period = ranged_ticks h.period (ranged_value (digit_run (drop (period_at line) line))) b.0 in
-      and_from _ _ (le-leb _ _ cost.0) (and_from _ _ p.0 (and_from _ _ p.1 (le-leb _ _ period.1)))
+      grind (arith, nat_tests)
 
 module _ (levels : List (Option ℕ)) where
   -- the task of a line, with its sections before others

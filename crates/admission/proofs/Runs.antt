@@ -1,13 +1,12 @@
 -- One turn of each loop of the check.
-use Rattle.std.proofs.Common.{◌≡◌, ℕ, ◌+◌, ◌<◌, ◌≤◌, Bool, true, false, ◌&&◌, eqb, leb, List, [], ◌∷◌, length, get_or, take, drop, Some, None, Option, sym, refl, ap, ◌∙◌, arith}
+use Rattle.std.proofs.Common.{◌≡◌, ℕ, ◌+◌, ◌<◌, ◌≤◌, Bool, true, false, ◌&&◌, eqb, List, [], ◌∷◌, length, get_or, take, drop, Some, None, sym, refl, ap, ◌∙◌, arith}
 use Rattle.std.proofs.lemmas.List.{at_drop_more, at_drop_all, drop_more, drop-drop, length-drop}
-use Rattle.std.proofs.lemmas.Bool.{and_parts, leb-true, le-leb, eqb-false, ne_eqb}
+use Rattle.std.proofs.lemmas.Bool.{ne_eqb}
 use Rattle.std.proofs.lemmas.Bool.Decides.{nat_tests}
 use Rattle.table.specs.declared.records.TaskRecord.{TaskRecord}
 use Rattle.table.specs.declared.records.SectionRecord.{SectionRecord}
-use Rattle.table.specs.Level.{least_level, letter_levels}
 use Rattle.admission.specs.declared.path.Opened.{Opened}
-use Rattle.admission.specs.Sound.{sections_sound, same_level, level_sound, levels_sound, times_sound, task_sound, tasks_sound, sound}
+use Rattle.admission.specs.Sound.{sections_sound, times_sound, task_sound, tasks_sound}
 use Rattle.admission.specs.Stack.{entered}
 use Rattle.admission.proofs.Entered.{goes, sections_more}
 
@@ -22,32 +21,16 @@ module _ (k cost n : ℕ) (path : List Opened) (ss : List SectionRecord) (i : �
   pub run_stop : entered k cost n path (get_or ss i d) ≡ None → false ≡ sections_sound k cost n path (drop i ss)
   run_stop e = sym (run_step ∙ ap (goes k cost (n + 1) (drop (i + 1) ss)) e)
 
--- one more level
-pub level_is :
-    (tasks : List TaskRecord) (all : List SectionRecord) (levels : List (Option ℕ)) (s : SectionRecord) (least : Option ℕ) (b : Bool)
-    → b ≡ same_level s.level least → least ≡ least_level levels 0 s → levels ≡ letter_levels tasks all → b ≡ level_sound tasks all s
-level_is tasks all levels s least b same is are = same ∙ ap (same_level s.level) (is ∙ ap (λ l. least_level l 0 s) are)
-
-module _ (tasks : List TaskRecord) (all ss : List SectionRecord) (i : ℕ) (d : SectionRecord) (within : i < length ss) (b : Bool) (is : b ≡ level_sound tasks all (get_or ss i d)) where
-  pub levels_step : levels_sound tasks all (drop i ss) ≡ (b && levels_sound tasks all (drop (i + 1) ss))
-  levels_step = at_drop_more (levels_sound tasks all) ss i d within ∙ ap (λ x. x && levels_sound tasks all (drop (i + 1) ss)) (sym is)
-
 -- what a task that keeps the rules keeps
 module _ (k n : ℕ) (t : TaskRecord) (ss : List SectionRecord) (ok : task_sound k n t ss ≡ true) where
-  sound_own : (eqb t.sections.first n && (leb t.sections.count (length ss) && sections_sound k t.cost n [] (take t.sections.count ss))) ≡ true
-  sound_own = (and_parts (times_sound t) _ ok).1
-
-  sound_count : (leb t.sections.count (length ss) && sections_sound k t.cost n [] (take t.sections.count ss)) ≡ true
-  sound_count = (and_parts (eqb t.sections.first n) _ sound_own).1
-
   pub sound_times : times_sound t ≡ true
-  sound_times = (and_parts (times_sound t) _ ok).0
+  sound_times = grind (arith, nat_tests)
 
   pub sound_fits : t.sections.count ≤ length ss
-  sound_fits = leb-true _ _ (and_parts (leb t.sections.count (length ss)) _ sound_count).0
+  sound_fits = grind (arith, nat_tests)
 
   pub sound_sections : sections_sound k t.cost n [] (take t.sections.count ss) ≡ true
-  sound_sections = (and_parts (leb t.sections.count (length ss)) _ sound_count).1
+  sound_sections = grind (arith, nat_tests)
 
 -- one more task: the sections that are left to it and those after it are the rest
 module _
@@ -76,18 +59,3 @@ tasks_end k n ts ss i past within =
     let left = length-drop n ss in
     let same : eqb n (length ss) ≡ eqb (length (drop n ss)) 0 = grind (arith, nat_tests) in
     same ∙ sym (at_drop_all (λ l. tasks_sound k n l (drop n ss)) ts i past ∙ none_left k n (drop n ss))
-
--- the records as a whole
-module _ (ts : List TaskRecord) (ss : List SectionRecord) (any : false ≡ eqb (length ts) 0) (few : length ts ≤ 32) (short : length ss ≤ 64) where
-  counted : sound ts ss ≡ (tasks_sound 0 0 ts ss && levels_sound ts ss ss)
-  unfolding sound
-  counted =
-      let none = eqb-false _ _ (sym any) in
-      let some : 1 ≤ length ts = omega arith in
-      simp (le-leb _ _ some, le-leb _ _ few, le-leb _ _ short)
-
-  pub whole_levels : true ≡ tasks_sound 0 0 ts ss → levels_sound ts ss ss ≡ sound ts ss
-  whole_levels e = ap (λ x. x && levels_sound ts ss ss) e ∙ sym counted
-
-  pub whole_tasks : false ≡ tasks_sound 0 0 ts ss → false ≡ sound ts ss
-  whole_tasks e = ap (λ x. x && levels_sound ts ss ss) e ∙ sym counted

@@ -1,5 +1,5 @@
 -- The walk over the instants keeps its word, and no two answers do: so an answer that keeps it is the walk's.
-use Rattle.std.proofs.Common.{◌≡◌, ℕ, zero, suc, ◌+◌, ◌<◌, ◌≤◌, true, false, eqb, ltb, List, Ok, Err, Result, sym, refl, ap, ◌∙◌, inl, inr, arith, below_more}
+use Rattle.std.proofs.Common.{◌≡◌, ℕ, zero, suc, ◌+◌, ◌<◌, ◌≤◌, true, false, eqb, ltb, List, Ok, Err, Result, sym, refl, ap, subst, ◌∙◌, inl, inr, arith, below_more}
 use Rattle.std.proofs.lemmas.Bool.{cond_both, cases_lt, ltb-true, ltb-false, eqb-true, eqb-false, both_ways}
 use Rattle.table.specs.declared.records.TaskRecord.{TaskRecord}
 use Rattle.table.specs.declared.records.SectionRecord.{SectionRecord}
@@ -7,7 +7,7 @@ use Rattle.admission.specs.declared.refusal.Refusal.{Refusal}
 use Rattle.admission.specs.declared.refusal.Refusal.TheVariants.{Records, Demand, Undecided as NotDecided}
 use Rattle.admission.specs.Demand.{workload}
 use Rattle.admission.specs.Sound.{sound}
-use Rattle.admission.specs.Verdict.{horizon, asked, judged_from, judged, Fits, Verdict}
+use Rattle.admission.specs.Verdict.{horizon, asked, judged_from, judged, Fits, Admitted, Refused, Verdict}
 
 module _ (tasks : List TaskRecord) (sections : List SectionRecord) (rules : sound tasks sections ≡ true) where
   -- the walk from t on, where everything before t fits and none is idle
@@ -84,3 +84,11 @@ pub is_judged : (tasks : List TaskRecord) (sections : List SectionRecord) (r : R
 unfolding judged
 is_judged tasks sections r v =
     cond_both (sound tasks sections) (judged_from tasks sections horizon 1) (Err Records) (λ z. r ≡ z) (λ is. is_walk tasks sections is r v) (λ not. unsound tasks sections r not v)
+
+-- what is said of some records is said of the same ones
+module _ (tasks others : List TaskRecord) (sections more : List SectionRecord) (alike : (others ≡ tasks) × (more ≡ sections)) where
+  pub admitted_as : (idle : ℕ) → Admitted others more idle → Admitted tasks sections idle
+  admitted_as idle v = subst (λ l. Admitted l sections idle) alike.0 (subst (λ l. Admitted others l idle) alike.1 v)
+
+  pub refused_as : (why : Refusal) → Refused others more why → Refused tasks sections why
+  refused_as why v = subst (λ l. Refused l sections why) alike.0 (subst (λ l. Refused others l why) alike.1 v)

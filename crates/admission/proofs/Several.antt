@@ -1,35 +1,47 @@
 -- Several tasks: what they ask for together, and when one of them is due.
-use Rattle.std.proofs.Common.{◌≡◌, ℕ, zero, suc, ◌+◌, ◌-◌, ◌*◌, ◌<◌, ◌≤◌, min, ◌⊎◌, List, [], ◌∷◌, length, get_or, take, drop, Some, refl, ap, subst, inl, inr, arith}
-use Rattle.std.specs.List.{AllByRecursion, slice_get}
-use Rattle.std.proofs.lemmas.List.{at_drop_more, take_all}
-use Rattle.std.proofs.ByRecursion.{All-more, All-weaker}
+use Rattle.std.proofs.Common.{true, map, fold, sum_by, sym, ◌≡◌, ℕ, zero, suc, ◌+◌, ◌-◌, ◌*◌, ◌<◌, ◌≤◌, min, ◌⊎◌, List, [], ◌∷◌, length, get_or, drop, Some, refl, ap, subst, inl, inr, arith}
+use Rattle.std.specs.List.{AllByRecursion, slice_get, reduce}
+use Rattle.std.proofs.ByRecursion.{All-get_or}
+use Rattle.std.proofs.lemmas.List.{at_drop_more}
+use Rattle.std.proofs.lemmas.List.Recursion.{is_sum_by}
+use Rattle.std.proofs.lemmas.List.Sums.{sum_by-cons}
+use Rattle.std.proofs.lemmas.Option.{get_or_from_slice_get, slice_get_within}
+use Rattle.admission.specs.Sound.{sound}
+use Rattle.table.specs.declared.records.SectionRecord.{SectionRecord}
+use Rattle.admission.proofs.SoundFacts.{judgeable_if_sound}
 use Rattle.std.proofs.lemmas.Bool.{cases_lt}
 use Rattle.table.specs.declared.records.TaskRecord.{TaskRecord}
 use Rattle.table.specs.Level.{deadline_of}
 use Rattle.admission.specs.Demand.{demand_of, workload_of, demand, workload}
-use Rattle.admission.specs.Due.{DueOf, Due, NextOf, Next}
+use Rattle.admission.specs.Due.{DueOf, Due, Next}
 use Rattle.admission.specs.Facts.{Timed}
-use Rattle.admission.proofs.Single.{demand_of_le, workload_of_le, workload_of_mono, cost_le_workload_of, demand_of_none, demand_of_idle, demand_of_quiet}
+use Rattle.admission.proofs.Single.{due_after, due_after_next, workload_of_mono, cost_le_workload_of, demand_of_none, demand_of_idle, demand_of_quiet}
 
 -- what stands past the end of a slice of tasks
 abbrev pub no_task_lem : TaskRecord
 no_task_lem = record { name = record { first = 0; count = 0 }; deadline = 0; period = 0; cost = 0; sections = record { first = 0; count = 0 } }
 
 -- one more task
-module _ (ks : List TaskRecord) (i t : ℕ) (h : i < length ks) where
-  pub demand_more : demand (drop i ks) t ≡ demand_of (get_or ks i no_task_lem) t + demand (drop (i + 1) ks) t
-  demand_more = at_drop_more (λ l. demand l t) ks i no_task_lem h
+pub demand_more : (ks : List TaskRecord) (i t : ℕ) → i < length ks → demand (drop i ks) t ≡ demand_of (get_or ks i no_task_lem) t + demand (drop (i + 1) ks) t
+demand_more ks i t h = at_drop_more (λ l. demand l t) ks i no_task_lem h
 
-  pub workload_more : workload (drop i ks) t ≡ workload_of (get_or ks i no_task_lem) t + workload (drop (i + 1) ks) t
-  workload_more = at_drop_more (λ l. workload l t) ks i no_task_lem h
+-- demand and workload as sums of std
+pub demand_is : (ks : List TaskRecord) (t : ℕ) → demand ks t ≡ sum_by (λ k. demand_of k t) ks
+demand_is ks t = is_sum_by (λ l. demand l t) (λ k. demand_of k t) refl (λ _ _. refl) ks
 
-pub demand_le : (ks : List TaskRecord) (t : ℕ) → t ≤ 1048576 → AllByRecursion Timed ks → demand ks t ≤ length ks * 2097152
-demand_le [] t h a = omega arith
-demand_le (k ∷ ks) t h a = omega (arith, demand_of_le k a.0 t, a.0.near, demand_le ks t h a.1)
+pub workload_is : (ks : List TaskRecord) (t : ℕ) → workload ks t ≡ sum_by (λ k. workload_of k t) ks
+workload_is ks t = is_sum_by (λ l. workload l t) (λ k. workload_of k t) refl (λ _ _. refl) ks
 
-pub workload_le : (ks : List TaskRecord) (t : ℕ) → t ≤ 1048576 → AllByRecursion Timed ks → workload ks t ≤ length ks * 2097152
-workload_le [] t h a = omega arith
-workload_le (k ∷ ks) t h a = omega (arith, workload_of_le k a.0 t, a.0.near, workload_le ks t h a.1)
+-- a sum over tasks each of which asks for no more than the time up to an instant and its period
+module _ (f : TaskRecord → ℕ) (t : ℕ) (near : t ≤ 1048576) (le : (k : TaskRecord) → Timed k → f k ≤ t + k.period) where
+  pub sum_le : (ks : List TaskRecord) → AllByRecursion Timed ks → sum_by f ks ≤ length ks * 2097152
+  sum_le [] a = omega arith
+  sum_le (k ∷ ks) a = omega (arith, sum_by-cons f k ks, le k a.0, a.0.near, sum_le ks a.1)
+
+  pub sum_fits : (ks : List TaskRecord) (ss : List SectionRecord) → sound ks ss ≡ true → sum_by f ks < 4294967296
+  sum_fits ks ss ok =
+      let all = judgeable_if_sound ks ss ok in
+      omega (arith, sum_le ks all.timed, all.few)
 
 pub workload_mono : (ks : List TaskRecord) (t u : ℕ) → t ≤ u → AllByRecursion Timed ks → workload ks t ≤ workload ks u
 workload_mono [] t u h a = omega arith
@@ -76,45 +88,58 @@ relative_due [] i t e = let z : ◌≡◌ {A = ℕ} 0 1 = cc in omega arith
 relative_due (k ∷ ks) zero t e = let same : k.deadline ≡ t = cc in inl (0, omega arith)
 relative_due (k ∷ ks) (suc i) t e = inr (relative_due ks i t e)
 
-due_at : (ks : List TaskRecord) (i t : ℕ) (d : TaskRecord) → i < length ks → DueOf (get_or ks i d) t → Due ks t
-due_at [] i t d h due = absurd (omega arith)
-due_at (k ∷ ks) zero t d h due = inl due
-due_at (k ∷ ks) (suc i) t d h due = inr (due_at ks i t d (omega arith) due)
+-- the first deadlines of the tasks past t, and the least of them
+module _ (t : ℕ) where
+  abbrev pub deadlines : List TaskRecord → List ℕ
+  deadlines ks = map (λ k. due_after k t) ks
 
--- r is no later than any deadline of the task past t
-abbrev pub Ahead : ℕ → ℕ → TaskRecord → Type 0
-Ahead t r k = (u : ℕ) → t < u → DueOf k u → r ≤ u
+  -- r is m or the first deadline of the tasks past t, whichever comes first
+  record Least (ks : List TaskRecord) (m r : ℕ) : Type 0 where
+    upto : r ≤ m
+    past : t < m → t < r
+    due : (r ≡ m) ⊎ Due ks r
+    first : (u : ℕ) → t < u → Due ks u → r ≤ u
 
-ahead_all : (ks : List TaskRecord) (t r : ℕ) → AllByRecursion (Ahead t r) ks → (u : ℕ) → t < u → Due ks u → r ≤ u
-ahead_all [] t r a u h d = absurd d
-ahead_all (k ∷ ks) t r a u h (inl d) = a.0 u h d
-ahead_all (k ∷ ks) t r a u h (inr d) = ahead_all ks t r a.1 u h d
+  least : (ks : List TaskRecord) (m : ℕ) → AllByRecursion Timed ks → Least ks m (fold min m (deadlines ks))
+  least [] m a = record { upto = omega arith; past = λ h. h; due = inl refl; first = λ u h d. absurd d }
+  least (k ∷ ks) m a =
+      let next = due_after_next k a.0 t in
+      let rest = least ks (min m (due_after k t)) a.1 in
+      record {
+        upto = omega (arith, rest.upto);
+        past = λ h. rest.past (omega (arith, next.past));
+        due = elim rest.due [
+          | inr d ↦ inr (inr d)
+          | inl e ↦ elim (cases_lt m (due_after k t)) [
+            | inl lt ↦ inl (omega arith)
+            | inr ge ↦ let is : due_after k t ≡ fold min (min m (due_after k t)) (deadlines ks) = omega arith in inr (inl (subst (DueOf k) is next.due))
+          ]
+        ];
+        first = λ u h d. elim d [ inl own ↦ omega (arith, rest.upto, next.first u h own) | inr d ↦ rest.first u h d ];
+      }
 
--- r is a deadline past t, and no later than those of the first i tasks
-abbrev pub Soonest : List TaskRecord → ℕ → ℕ → ℕ → Type 0
-Soonest ks i t r = (t < r) × Due ks r × AllByRecursion (Ahead t r) (take i ks)
+  pub next_of : (ks : List TaskRecord) (r : ℕ) → AllByRecursion Timed ks → reduce min (deadlines ks) ≡ Some r → Next ks t r
+  next_of [] r a e = let z : ◌≡◌ {A = ℕ} 0 1 = cc in absurd (omega arith)
+  next_of (k ∷ ks) r a e =
+      let next = due_after_next k a.0 t in
+      let rest = least ks (due_after k t) a.1 in
+      let is : fold min (due_after k t) (deadlines ks) ≡ r = cc in
+      subst (Next (k ∷ ks) t) is (record {
+        past = rest.past next.past;
+        due = elim rest.due [ inr d ↦ inr d | inl e ↦ inl (subst (DueOf k) (sym e) next.due) ];
+        first = λ u h d. elim d [ inl own ↦ omega (arith, rest.upto, next.first u h own) | inr d ↦ rest.first u h d ];
+      })
 
-pub soonest_none : (ks : List TaskRecord) (t r : ℕ) → 1 ≤ length ks → NextOf (get_or ks 0 no_task_lem) t r → Soonest ks 0 t r
-soonest_none ks t r h next = (next.past, due_at ks 0 r no_task_lem h next.due, tt)
-
-pub soonest_more : (ks : List TaskRecord) (i t a b r : ℕ) → i < length ks → NextOf (get_or ks i no_task_lem) t a → r ≡ min a b → Soonest ks i t b → Soonest ks (i + 1) t r
-soonest_more ks i t a b r h next is so =
-    let due : Due ks r = elim (cases_lt a b) [
-      | inl lt ↦ subst (Due ks) (omega arith) (due_at ks i a no_task_lem h next.due)
-      | inr ge ↦ subst (Due ks) (omega arith) so.1
-    ] in (
-      omega (arith, next.past, so.0),
-      due,
-      All-more (Ahead t r) ks i no_task_lem h (All-weaker (Ahead t b) (Ahead t r) (λ k f u p d. omega (arith, f u p d)) (take i ks) so.2)
-          (λ u p d. omega (arith, next.first u p d)),
-    )
-
-pub soonest_all : (ks : List TaskRecord) (i t r : ℕ) → length ks ≤ i → Soonest ks i t r → Next ks t r
-soonest_all ks i t r h so =
-    let P : List TaskRecord → Type 0 = AllByRecursion (Ahead t r) in
-    record { past = so.0; due = so.1; first = ahead_all ks t r (subst P (take_all i ks h) so.2) }
+  pub next_some : (ks : List TaskRecord) → 1 ≤ length ks → (r : ℕ) × (reduce min (deadlines ks) ≡ Some r)
+  next_some [] h = absurd (omega arith)
+  next_some (k ∷ ks) h = (fold min (due_after k t) (deadlines ks), refl)
 
 pub nth_all : {X : Type 0} (P : X → Type 0) (xs : List X) (i : ℕ) (x : X) → slice_get xs i ≡ Some x → AllByRecursion P xs → P x
-nth_all P [] i x e a = let z : ◌≡◌ {A = ℕ} 0 1 = cc in absurd (omega arith)
-nth_all P (y ∷ ys) zero x e a = let same : y ≡ x = cc in subst P same a.0
-nth_all P (y ∷ ys) (suc i) x e a = nth_all P ys i x e a.1
+nth_all P xs i x e a = subst P (get_or_from_slice_get xs i x x e) (All-get_or P xs i x (slice_get_within xs i x e) a)
+
+-- each task of records that break no rule
+pub timed_at :
+    (ks : List TaskRecord) (ss : List SectionRecord) → sound ks ss ≡ true
+    → (k : TaskRecord) (i : ℕ) → i < length ks → k ≡ get_or ks i k → Timed k
+timed_at ks ss ok k i h is =
+    subst Timed (sym is) (All-get_or Timed ks i k h (judgeable_if_sound ks ss ok).timed)

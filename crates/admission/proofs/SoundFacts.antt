@@ -1,7 +1,8 @@
 -- What records that break no rule keep, taken out of the check.
-use Rattle.std.proofs.Common.{◌≡◌, ℕ, ◌+◌, ◌<◌, ◌≤◌, true, false, ◌&&◌, eqb, leb, List, [], ◌∷◌, length, get_or, take, drop, Some, None, Option, sym, refl, ap, ◌∙◌, subst, arith}
+use Rattle.std.proofs.Common.{◌≡◌, ℕ, ◌+◌, ◌<◌, ◌≤◌, true, false, ◌&&◌, eqb, List, [], ◌∷◌, length, get_or, take, drop, Some, None, Option, sym, refl, ap, ◌∙◌, subst, arith}
 use Rattle.std.specs.List.{AllByRecursion, slice_get}
-use Rattle.std.proofs.lemmas.Bool.{false≢true, and_parts, leb-true, eqb-true, cond_both}
+use Rattle.std.proofs.lemmas.Bool.{false≢true, and_parts, eqb-true, cond_both}
+use Rattle.std.proofs.lemmas.Bool.Decides.{nat_tests}
 use Rattle.std.proofs.lemmas.List.{drop_more, length-drop, take-append-drop}
 use Rattle.std.proofs.ByRecursion.{All-append, All-weaker}
 use Rattle.std.proofs.lemmas.Option.{slice_get-get_or}
@@ -12,44 +13,34 @@ use Rattle.admission.specs.declared.path.Opened.{Opened}
 use Rattle.admission.specs.Sound.{unwound, longest, section_sound, opening, sections_sound, times_sound, task_sound, tasks_sound, same_level, level_sound, levels_sound, sound}
 use Rattle.admission.specs.Facts.{Timed, Owned, LevelOf, Leveled, Judgeable}
 use Rattle.admission.proofs.Dues.{due_section}
-use Rattle.admission.proofs.Entered.{roomy_short, sound_owner, sound_roomy}
+use Rattle.admission.proofs.Entered.{sound_parts}
 use Rattle.admission.proofs.Runs.{sound_times, sound_sections}
 
 -- the parts of the check
 module _ (ts : List TaskRecord) (ss : List SectionRecord) (ok : sound ts ss ≡ true) where
-  past_some : (leb (length ts) 32 && (leb (length ss) 64 && (tasks_sound 0 0 ts ss && levels_sound ts ss ss))) ≡ true
-  unfolding sound
-  past_some = (and_parts (leb 1 (length ts)) _ ok).1
-
-  past_few : (leb (length ss) 64 && (tasks_sound 0 0 ts ss && levels_sound ts ss ss)) ≡ true
-  past_few = (and_parts (leb (length ts) 32) _ past_some).1
-
-  past_short : (tasks_sound 0 0 ts ss && levels_sound ts ss ss) ≡ true
-  past_short = (and_parts (leb (length ss) 64) _ past_few).1
-
   some_tasks : 1 ≤ length ts
   unfolding sound
-  some_tasks = leb-true _ _ (and_parts (leb 1 (length ts)) _ ok).0
+  some_tasks = grind (arith, nat_tests)
 
   few_tasks : length ts ≤ 32
-  few_tasks = leb-true _ _ (and_parts (leb (length ts) 32) _ past_some).0
+  unfolding sound
+  few_tasks = grind (arith, nat_tests)
 
   pub few_sections : length ss ≤ 64
-  few_sections = leb-true _ _ (and_parts (leb (length ss) 64) _ past_few).0
+  unfolding sound
+  few_sections = grind (arith, nat_tests)
 
-  tasks_part : tasks_sound 0 0 ts ss ≡ true
-  tasks_part = (and_parts (tasks_sound 0 0 ts ss) _ past_short).0
+  pub tasks_part : tasks_sound 0 0 ts ss ≡ true
+  unfolding sound
+  tasks_part = grind (arith, nat_tests)
 
-  levels_part : levels_sound ts ss ss ≡ true
-  levels_part = (and_parts (tasks_sound 0 0 ts ss) _ past_short).1
+  pub levels_part : levels_sound ts ss ss ≡ true
+  unfolding sound
+  levels_part = grind (arith, nat_tests)
 
 -- a task's times
 timed : (t : TaskRecord) → times_sound t ≡ true → Timed t
-timed t ok =
-    let a = and_parts (leb 1 t.cost) _ ok in
-    let b = and_parts (leb t.cost t.deadline) _ a.1 in
-    let c = and_parts (leb t.deadline t.period) _ b.1 in
-    record { works = leb-true _ _ a.0; early = leb-true _ _ b.0; cyclic = leb-true _ _ c.0; near = leb-true _ _ c.1 }
+timed t ok = record { works = grind (arith, nat_tests); early = grind (arith, nat_tests); cyclic = grind (arith, nat_tests); near = grind (arith, nat_tests) }
 
 all_timed : (k n : ℕ) (ts : List TaskRecord) (ss : List SectionRecord) → tasks_sound k n ts ss ≡ true → AllByRecursion Timed ts
 all_timed k n [] ss ok = tt
@@ -80,10 +71,8 @@ short_longest cost (o ∷ path) all = all.0
 
 mine : (k cost : ℕ) (path : List Opened) (s : SectionRecord) → AllByRecursion (Short cost) path → section_sound k cost path s ≡ true → Mine k cost s
 mine k cost path s all ok =
-    let room = sound_roomy k cost path s ok in
-    let short = leb-true _ _ (roomy_short cost path s.length room) in
-    let most = short_longest cost path all in
-    (eqb-true _ _ (sound_owner k cost path s ok), omega arith)
+    let own = sound_parts k cost path s ok in
+    (own.owner, omega (arith, own.short, short_longest cost path all))
 
 -- one section of a task, and those after it
 module _
@@ -133,7 +122,7 @@ all_owned all k n (t ∷ ts) ss at ok =
     (All-append (Owned all) (take count ss) (drop count ss) (All-weaker (Mine k t.cost) (Owned all) (owned_here all k t ts at) (take count ss) own) later)
 
 -- levels
-same_level_lem : (a b : Option ℕ) → same_level a b ≡ true → a ≡ b
+pub same_level_lem : (a b : Option ℕ) → same_level a b ≡ true → a ≡ b
 same_level_lem None None ok = refl
 same_level_lem None (Some y) ok = absurd (false≢true ok)
 same_level_lem (Some x) None ok = absurd (false≢true ok)

@@ -1,8 +1,10 @@
 -- The letters of two sets, as they are written behind a section's brace.
 use Rattle.std.proofs.Common.{◌≡◌, ℕ, zero, suc, ◌+◌, ◌-◌, ◌*◌, ◌/◌, ◌%◌, ◌^◌, ◌<◌, ◌≤◌, Bool, true, false, cond, not, List, [], ◌∷◌, length, sym, refl, ap, ◌∙◌, inl, inr, mod-eq_of_lt, arith}
-use lib.Bits.{bit_and, bit_or, and_shifted, and_self}
+use lib.Bits.{bit_or}
 use Rattle.std.proofs.lemmas.Bool.{cond-true, cond-false, cond_both, eqb-true, eqb-false}
-use Rattle.std.proofs.lemmas.Nat.{pow_pos, pow_below, mod-pow-add, or_shifted, or_comm, shr_split, mod_below}
+use Rattle.std.proofs.lemmas.Nat.{pow_pos, mod-pow-add, or_shifted, or_comm, mod_below}
+use Rattle.std.specs.Int.{bit_at}
+use Rattle.std.proofs.lemmas.Nat.Bits.{bit_at-zero, bit_at_and, bit_at-pow_other, and_pow}
 use Rattle.std.proofs.lemmas.Bool.Decides.{nat_tests}
 use Rattle.table.specs.declared.line.Letter.{Letter as Mark}
 use Rattle.table.specs.Byte.{is_small}
@@ -10,7 +12,7 @@ use Rattle.table.specs.Level.{member}
 use Rattle.table.specs.Grammar.{Letter, Byte}
 use Rattle.table.specs.Breach.{resource}
 use Rattle.table.proofs.Spotted.{mark}
-use Rattle.admission.proofs.Apart.{Apart, apart_sym, parts_apart, Within}
+use Rattle.admission.proofs.Apart.{Apart, Within}
 
 -- the small letter and the capital of a resource
 abbrev pub small_letter : ℕ → Byte Letter
@@ -76,22 +78,17 @@ low_without set r e =
 -- a member of a set is in it
 pub member_within : (set r : ℕ) → member set r ≡ true → Within (2 ^ r) set
 member_within set r e c p =
-    let high = set / 2 ^ (r + 1) in
-    let low = set % 2 ^ (r + 1) in
-    let whole : set ≡ bit_or (high * 2 ^ (r + 1)) low = sym (or_shifted high (r + 1) low (mod_below set (2 ^ (r + 1)) (pow_pos (r + 1))) ∙ shr_split set (r + 1)) in
-    let lows = (parts_apart c (high * 2 ^ (r + 1)) low (ap (bit_and c) (sym whole) ∙ p)).1 in
-    (parts_apart c (set % 2 ^ r) (2 ^ r) (ap (bit_and c) (low_with set r e) ∙ lows)).1
+    let one = eqb-true (set / 2 ^ r % 2) 1 e in
+    let none : bit_at c r ≡ 0 = omega (arith, one, bit_at_and c set r, ap (λ x. bit_at x r) p, bit_at-zero r) in
+    omega (arith, and_pow c r, ap (λ x. x * 2 ^ r) none)
 
 pub bits_apart : (r q : ℕ) → r < q → Apart (2 ^ r) (2 ^ q)
-bits_apart r q h =
-    apart_sym (2 ^ q) (2 ^ r) (ap (λ x. bit_and x (2 ^ r)) (let s : 2 ^ q ≡ 1 * 2 ^ q = omega arith in s) ∙ and_shifted 1 q (2 ^ r) (pow_below r q h))
+bits_apart r q h = omega (arith, and_pow (2 ^ r) q, ap (λ x. x * 2 ^ q) (bit_at-pow_other r q (λ e. omega arith)))
 
 -- no member of one of two sets apart is one of the other
 never_both : (a b r : ℕ) → Apart a b → member a r ≡ true → member b r ≡ true → ⊥
 never_both a b r apart e k =
-    let p = apart_sym a (2 ^ r) (member_within b r k a apart) in
-    let q = member_within a r e (2 ^ r) p in
-    omega (arith, and_self (2 ^ r), pow_pos r)
+    omega (arith, eqb-true (a / 2 ^ r % 2) 1 e, eqb-true (b / 2 ^ r % 2) 1 k, bit_at_and a b r, ap (λ x. bit_at x r) apart, bit_at-zero r)
 
 pub not_both : (a b r : ℕ) → Apart a b → member a r ≡ true → member b r ≡ false
 not_both a b r apart e =

@@ -1,25 +1,46 @@
--- The open sections on their stack: the innermost is on top.
-use Rattle.std.proofs.Common.{◌≡◌, ℕ, ◌+◌, ◌-◌, ◌<◌, ◌≤◌, List, [], ◌∷◌, reverse, length, get_or, take, set, Some, sym, ap, ◌∙◌, arith}
-use Rattle.std.proofs.lemmas.List.{take_more, take_more_set, reverse-append, length-reverse, length-take-le}
+-- The open sections as the check keeps them: the innermost is last.
+use Rattle.std.proofs.Common.{◌≡◌, ◌≢◌, ℕ, zero, suc, ◌+◌, ◌-◌, ◌<◌, ◌≤◌, List, [], ◌∷◌, reverse, length, get_or, take, Some, None, sym, ap, ◌∙◌, arith}
+use Rattle.std.specs.List.{AllWithin, HoldsAt}
+use Rattle.std.proofs.lemmas.List.{take_more, take_all, reverse-append}
 use Rattle.std.proofs.lemmas.Bool.{eq-eqb, ne_eqb, cond-true, cond-false}
 use Rattle.admission.specs.declared.path.Opened.{Opened}
 use Rattle.admission.specs.Sound.{unwound}
-use Rattle.admission.specs.Stack.{lowest}
 
-pub length-lowest : (xs : List Opened) (depth : ℕ) → depth ≤ length xs → length (lowest xs depth) ≡ depth
-length-lowest xs depth h = length-reverse (take depth xs) ∙ length-take-le depth xs h
+abbrev no_opened_lem : Opened
+no_opened_lem = record { number = 0; length = 0; letters = 0 }
 
-pub lowest_push : (xs : List Opened) (depth : ℕ) (o : Opened) → depth < length xs → lowest (set xs depth o) (depth + 1) ≡ o ∷ lowest xs depth
-lowest_push xs depth o h = ap reverse (take_more_set xs depth o h) ∙ reverse-append (take depth xs) (o ∷ [])
+module _ (a : ℕ) (xs : List Opened) where
+  -- the outermost so many
+  abbrev outermost : ℕ → List Opened
+  outermost depth = reverse (take depth xs)
 
-module _ (xs : List Opened) (depth : ℕ) (d : Opened) (some : 0 < depth) (within : depth ≤ length xs) where
-  pub lowest_top : lowest xs depth ≡ get_or xs (depth - 1) d ∷ lowest xs (depth - 1)
-  lowest_top =
-      let at : depth ≡ depth - 1 + 1 = omega arith in
-      ap (lowest xs) at ∙ ap reverse (take_more xs (depth - 1) d (omega arith)) ∙ reverse-append (take (depth - 1) xs) (get_or xs (depth - 1) d ∷ [])
+  top : (depth : ℕ) → depth < length xs → outermost (depth + 1) ≡ get_or xs depth no_opened_lem ∷ outermost depth
+  top depth h = ap reverse (take_more xs depth no_opened_lem h) ∙ reverse-append (take depth xs) (get_or xs depth no_opened_lem ∷ [])
 
-  pub unwound_here : (a : ℕ) → (get_or xs (depth - 1) d).number ≡ a → Some (lowest xs depth) ≡ unwound (Some a) (lowest xs depth)
-  unwound_here a e = ap Some lowest_top ∙ sym (ap (unwound (Some a)) lowest_top ∙ cond-true _ _ _ (eq-eqb _ _ e))
+  -- sections with another number are passed
+  past : (n depth : ℕ) → depth + n ≤ length xs → AllWithin (λ o. o.number ≢ a) xs depth (depth + n) → unwound (Some a) (outermost (depth + n)) ≡ unwound (Some a) (outermost depth)
+  past zero depth h others = ap (λ k. unwound (Some a) (outermost k)) (omega arith)
+  past (suc n) depth h others =
+      let at : depth + suc n ≡ depth + n + 1 = omega arith in
+      ap (λ k. unwound (Some a) (outermost k)) at ∙ ap (unwound (Some a)) (top (depth + n) (omega arith))
+      ∙ cond-false _ _ _ (ne_eqb _ _ (others (depth + n) no_opened_lem (omega arith) (omega arith)))
+      ∙ past n depth (omega arith) (λ k d from to. others k d from (omega arith))
 
-  pub unwound_past : (a : ℕ) → ((get_or xs (depth - 1) d).number ≡ a → ⊥) → unwound (Some a) (lowest xs (depth - 1)) ≡ unwound (Some a) (lowest xs depth)
-  unwound_past a e = sym (ap (unwound (Some a)) lowest_top ∙ cond-false _ _ _ (ne_eqb _ _ e))
+  whole : outermost (length xs) ≡ reverse xs
+  whole = ap reverse (take_all (length xs) xs (omega arith))
+
+  pub unwound_none : AllWithin (λ o. o.number ≢ a) xs 0 (length xs) → unwound (Some a) (reverse xs) ≡ None
+  unwound_none others =
+      let at : length xs ≡ 0 + length xs = omega arith in
+      ap (unwound (Some a)) (sym whole) ∙ ap (λ k. unwound (Some a) (outermost k)) at
+      ∙ past (length xs) 0 (omega arith) (λ k d from to. others k d from (omega arith))
+
+  pub unwound_at :
+      (i : ℕ) → i < length xs → HoldsAt (λ o. o.number ≡ a) xs i → AllWithin (λ o. o.number ≢ a) xs (i + 1) (length xs)
+      → unwound (Some a) (reverse xs) ≡ Some (reverse (take (i + 1) xs))
+  unwound_at i h here others =
+      let n : ℕ = length xs - (i + 1) in
+      let at : length xs ≡ i + 1 + n = omega arith in
+      ap (unwound (Some a)) (sym whole) ∙ ap (λ k. unwound (Some a) (outermost k)) at
+      ∙ past n (i + 1) (omega arith) (λ k d from to. others k d from (omega arith))
+      ∙ ap (unwound (Some a)) (top i h) ∙ cond-true _ _ _ (eq-eqb _ _ (here no_opened_lem)) ∙ ap Some (sym (top i h))

@@ -1,7 +1,8 @@
 -- The text of records that keep the rules, and what the reader makes of it: the records, but for levels and names.
 use Rattle.std.proofs.Common.{◌≡◌, ℕ, suc, ◌+◌, ◌*◌, ◌<◌, ◌≤◌, true, eqb, ltb, List, [], ◌∷◌, ◌++◌, map, length, take, drop, Ok, sym, refl, ap, ◌∙◌, arith}
 use Rattle.std.specs.List.{AllByRecursion}
-use Rattle.std.proofs.lemmas.Bool.{and_parts, cond-false, eqb-true, le-ltb, ne_eqb, false≢true}
+use Rattle.std.proofs.lemmas.Bool.Decides.{nat_tests}
+use Rattle.std.proofs.lemmas.Bool.{and_parts, cond-false, le-ltb, ne_eqb, false≢true}
 use Rattle.std.proofs.lemmas.List.{map-append, length-append, length-take-le, length-drop, take-append-drop}
 use Rattle.table.specs.declared.records.Counts.{Counts}
 use Rattle.table.specs.declared.records.TaskRecord.{TaskRecord}
@@ -18,7 +19,7 @@ use Rattle.table.specs.Breach.{count}
 use Rattle.table.proofs.Turns.{go_on}
 use Rattle.table.proofs.Rendered.{one_line}
 use Rattle.table.proofs.Sectioned.{opens_line}
-use Rattle.admission.specs.Sound.{sections_sound, times_sound, task_sound, tasks_sound}
+use Rattle.admission.specs.Sound.{sections_sound, task_sound, tasks_sound}
 use Rattle.admission.specs.Facts.{Timed}
 use Rattle.admission.specs.Origin.{nameless}
 use Rattle.admission.proofs.Runs.{sound_fits, sound_sections}
@@ -62,7 +63,7 @@ module _ (k n : ℕ) (t : TaskRecord) (ss : List SectionRecord) (timed : Timed t
   own_count = length-take-le t.sections.count ss (sound_fits k n t ss ok)
 
   own_first : t.sections.first ≡ n
-  own_first = eqb-true t.sections.first n (and_parts (eqb t.sections.first n) _ (and_parts (times_sound t) _ ok).1).0
+  own_first = grind (arith, nat_tests)
 
   own_opens : opens (line_items line) ≡ t.sections.count
   own_opens = line_opens k n t own timed own_sound ∙ own_count

@@ -1,42 +1,12 @@
 //! The verdict on a table's records.
-ghost use Rattle.std.specs.Prelude.{◌≡◌, true, IfOk, Ok, Err, MatchResult};
+ghost use Rattle.std.specs.Prelude.{◌≡◌, IfOk, Ok, Err, MatchResult};
 ghost use Rattle.admission.specs.Passed.{Passed};
-ghost use Rattle.admission.specs.Sound.{sound};
-ghost use Rattle.admission.specs.Verdict.{judged, Admitted, Refused, Verdict, FitsEver};
+ghost use Rattle.admission.specs.Verdict.{judged, Admitted, Refused, FitsEver};
 
-use crate::check::sound_records;
-use crate::idle::{HORIZON, idle_instant};
-use crate::judge::fits_until;
+use crate::check::Sound;
 use crate::pass::Pass;
 use crate::refusal::Refusal;
 use table::records::{SectionRecord, TaskRecord};
-
-/// Judges records that break no rule: their idle instant, or why they are not admitted.
-fn judge_sound(tasks: &[TaskRecord], sections: &[SectionRecord]) -> Result<u32, Refusal>
-    requires { sound tasks.now sections.now ≡ true }
-    ensures { Verdict tasks.now sections.now result }
-{
-    match idle_instant(tasks) {
-        Some(idle) => {
-            fits_until(tasks, sections, idle)?;
-            Ok(idle)
-        }
-        None => {
-            fits_until(tasks, sections, HORIZON)?;
-            Err(Refusal::Undecided)
-        }
-    }
-}
-
-/// Judges any records: their idle instant, or why they are not admitted.
-fn judge_records(tasks: &[TaskRecord], sections: &[SectionRecord]) -> Result<u32, Refusal>
-    ensures { Verdict tasks.now sections.now result }
-{
-    if !sound_records(tasks, sections) {
-        return Err(Refusal::Records);
-    }
-    judge_sound(tasks, sections)
-}
 
 /// Admits records that break no rule and fit at every instant up to their idle instant, and hands out the pass that says so.
 ///
@@ -53,12 +23,10 @@ pub fn admit<'a>(
     ensures passed { IfOk result Passed }
     ensures records { IfOk result (λ p. (p.tasks.now ≡ tasks.now) × (p.sections.now ≡ sections.now)) }
 {
-    match judge_records(tasks, sections) {
-        Ok(idle) => Ok(Pass {
-            tasks,
-            sections,
-            idle,
-        }),
-        Err(refusal) => Err(refusal),
-    }
+    let idle = Sound::new(tasks, sections)?.judge()?.ticks;
+    Ok(Pass {
+        tasks,
+        sections,
+        idle,
+    })
 }

@@ -1,8 +1,10 @@
 //! The check that records break no rule of a table.
-ghost use Rattle.std.specs.Prelude.{◌≡◌, ◌+◌, ◌^◌, ◌<◌, [], length};
-ghost use Rattle.admission.specs.Sound.{times_sound, same_level, sections_sound, task_sound, tasks_sound, levels_sound, sound};
+ghost use Rattle.std.specs.Prelude.{◌≡◌, ◌+◌, ◌^◌, ◌<◌, true, [], length, MatchResult};
+ghost use Rattle.admission.specs.Sound.{times_sound, sections_sound, task_sound, tasks_sound, levels_sound, sound};
+ghost use Rattle.admission.specs.Verdict.{Refused};
 
 use crate::path::Path;
+use crate::refusal::Refusal;
 use table::levels::{letter_levels, section_level};
 use table::limits::{LARGEST, MOST_SECTIONS, MOST_TASKS};
 use table::records::{SectionRecord, TaskRecord};
@@ -17,25 +19,15 @@ fn times_sound(task: &TaskRecord) -> bool
         && task.period <= LARGEST
 }
 
-/// Whether two levels are the same.
-fn same_level(a: Option<u32>, b: Option<u32>) -> bool
-    ensures { result ≡ same_level a b }
-{
-    match (a, b) {
-        (Some(x), Some(y)) => x == y,
-        (None, None) => true,
-        _ => false,
-    }
-}
-
 /// Whether the sections of a task keep the rules; the first of them has this number.
 fn run_sound(owner: usize, cost: u32, first: usize, sections: &[SectionRecord]) -> bool
     requires { first + length sections.now < 2 ^ 64 }
     ensures { result ≡ sections_sound owner cost first [] sections.now }
 {
+    // A loop: each section changes what is open around the next.
     let mut path = Path::new();
     for (i, section) in sections.iter().enumerate() {
-        if !path.enter(owner, cost, first + i, section) {
+        if path.enter(owner, cost, first + i, section).is_none() {
             return false;
         }
     }
@@ -48,16 +40,17 @@ fn task_sound(number: usize, next: usize, task: &TaskRecord, rest: &[SectionReco
     ensures { result ≡ task_sound number next task.now rest.now }
 {
     let count = task.sections.count;
-    if !times_sound(task) || task.sections.first != next || count > rest.len() {
-        return false;
-    }
-    run_sound(number, task.cost, next, &rest[0..count])
+    times_sound(task)
+        && task.sections.first == next
+        && count <= rest.len()
+        && run_sound(number, task.cost, next, &rest[..count])
 }
 
 /// Whether the tasks keep the rules, and own the sections run by run.
 fn tasks_sound(tasks: &[TaskRecord], sections: &[SectionRecord]) -> bool
     ensures { result ≡ tasks_sound 0 0 tasks.now sections.now }
 {
+    // A loop: where the sections of a task begin depends on all tasks before it.
     let mut next = 0;
     for (number, task) in tasks.iter().enumerate() {
         if !task_sound(number, next, task, &sections[next..]) {
@@ -73,20 +66,43 @@ fn levels_sound(tasks: &[TaskRecord], sections: &[SectionRecord]) -> bool
     ensures { result ≡ levels_sound tasks.now sections.now sections.now }
 {
     let levels = letter_levels(tasks, sections);
-    for section in sections {
-        if !same_level(section.level, section_level(&levels, section)) {
-            return false;
-        }
-    }
-    true
+    sections
+        .iter()
+        .all(|section| section.level == section_level(&levels, section))
 }
 
 /// Whether the records break no rule of a table.
-pub(crate) fn sound_records(tasks: &[TaskRecord], sections: &[SectionRecord]) -> bool
+#[tactic(auto, unfolding(crate::specs::Sound::sound))]
+fn sound_records(tasks: &[TaskRecord], sections: &[SectionRecord]) -> bool
     ensures { result ≡ sound tasks.now sections.now }
 {
-    if tasks.is_empty() || tasks.len() > MOST_TASKS || sections.len() > MOST_SECTIONS {
-        return false;
+    !tasks.is_empty()
+        && tasks.len() <= MOST_TASKS
+        && sections.len() <= MOST_SECTIONS
+        && tasks_sound(tasks, sections)
+        && levels_sound(tasks, sections)
+}
+
+/// Records that break no rule of a table, lent for reading.
+#[derive(Clone, Copy)]
+pub struct Sound<'a> {
+    pub tasks: &'a [TaskRecord],
+    pub sections: &'a [SectionRecord],
+    ghost rules: { sound tasks.now sections.now ≡ true },
+}
+
+impl<'a> Sound<'a> {
+    /// The records that are lent, unless they break a rule.
+    pub(crate) fn new(
+        tasks: &'a [TaskRecord],
+        sections: &'a [SectionRecord],
+    ) -> Result<Sound<'a>, Refusal>
+        ensures { MatchResult result (λ s. (s.tasks.now ≡ tasks.now) × (s.sections.now ≡ sections.now)) (Refused tasks.now sections.now) }
+    {
+        if sound_records(tasks, sections) {
+            Ok(Sound { tasks, sections })
+        } else {
+            Err(Refusal::Records)
+        }
     }
-    tasks_sound(tasks, sections) && levels_sound(tasks, sections)
 }

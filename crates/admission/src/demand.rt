@@ -1,73 +1,61 @@
 //! What the tasks of a table ask for by an instant, and how long a section can hold them up.
-ghost use Rattle.std.specs.Prelude.{◌≡◌, ◌≤◌, length};
-ghost use Rattle.std.specs.List.{AllByRecursion};
-ghost use Rattle.table.specs.Limits.{most_tasks};
-ghost use Rattle.admission.specs.Demand.{demand_of, demand, reaches, later, blocks, blocking};
+ghost use Rattle.std.specs.Prelude.{◌≡◌, ◌+◌, ◌-◌, ◌/◌, ◌≤◌};
+ghost use Rattle.admission.specs.Demand.{demand, workload, blocks, blocking};
 ghost use Rattle.admission.specs.Facts.{Timed};
-ghost use Rattle.admission.specs.Verdict.{horizon};
 
+use crate::check::Sound;
+use crate::instant::Instant;
 use table::levels::deadline_of;
 use table::records::{SectionRecord, TaskRecord};
 
-/// What the jobs of a task that are due by `t` ask for.
-fn task_demand(task: &TaskRecord, t: u32) -> u32
+/// How many jobs of a task count by `t`, where the first counts at `first`, and one more each period from there on.
+pub(crate) fn jobs(task: &TaskRecord, first: u32, t: Instant) -> u32
     requires timed { Timed task.now }
-    requires near { t ≤ horizon }
-    ensures { result ≡ demand_of task.now t }
+    requires within { first ≤ task.now.period }
+    ensures { result ≡ (t.ticks + task.now.period - first) / task.now.period }
 {
-    task.cost * ((t + task.period - task.deadline) / task.period)
+    (t.ticks + task.period - first) / task.period
 }
 
-/// Whether a level is at most `t`; no level is above every number.
-fn is_reached(level: Option<u32>, t: u32) -> bool
-    ensures { result ≡ reaches level t }
-{
-    match level {
-        Some(level) => level <= t,
-        None => false,
+impl Sound<'_> {
+    /// What the jobs of all tasks that are due by `t` ask for.
+    pub(crate) fn demand_by(&self, t: Instant) -> u32
+        ensures { result ≡ demand self.now.tasks.now t.ticks }
+    {
+        self.tasks
+            .iter()
+            .map(|task| task.cost * jobs(task, task.deadline, t))
+            .sum()
     }
-}
 
-/// Whether a relative deadline is past `t`.
-fn is_later(deadline: Option<u32>, t: u32) -> bool
-    ensures { result ≡ later deadline t }
-{
-    match deadline {
-        Some(deadline) => t < deadline,
-        None => false,
+    /// What the jobs of all tasks that are released before `t` ask for.
+    pub(crate) fn workload_by(&self, t: Instant) -> u32
+        ensures { result ≡ workload self.now.tasks.now t.ticks }
+    {
+        self.tasks
+            .iter()
+            .map(|task| task.cost * jobs(task, 1, t))
+            .sum()
     }
-}
 
-/// Whether a section can hold up jobs that are due by `t`: its level is at most `t`, and its own task's D is past `t`.
-fn can_block(tasks: &[TaskRecord], section: &SectionRecord, t: u32) -> bool
-    ensures { result ≡ blocks tasks.now section.now t }
-{
-    is_reached(section.level, t) && is_later(deadline_of(tasks, section.task), t)
-}
-
-/// What the jobs of all tasks that are due by `t` ask for.
-pub(crate) fn demand_by(tasks: &[TaskRecord], t: u32) -> u32
-    requires few { length tasks.now ≤ most_tasks }
-    requires timed { AllByRecursion Timed tasks.now }
-    requires near { t ≤ horizon }
-    ensures { result ≡ demand tasks.now t }
-{
-    let mut sum = 0;
-    for task in tasks {
-        sum += task_demand(task, t);
+    /// Whether a section can hold up jobs that are due by `t`: its level is at most `t`, and its own task's D is past `t`. Where there
+    /// is no level, it counts as above every number.
+    fn can_block(&self, section: &SectionRecord, t: Instant) -> bool
+        ensures { result ≡ blocks self.now.tasks.now section.now t.ticks }
+    {
+        section.level.is_some_and(|level| level <= t.ticks)
+            && deadline_of(self.tasks, section.task).is_some_and(|deadline| t.ticks < deadline)
     }
-    sum
-}
 
-/// The greatest length of a section that can hold up jobs that are due by `t`; 0 if none can.
-pub(crate) fn blocking_at(tasks: &[TaskRecord], sections: &[SectionRecord], t: u32) -> u32
-    ensures { result ≡ blocking tasks.now sections.now t }
-{
-    let mut longest = 0;
-    for section in sections {
-        if can_block(tasks, section, t) {
-            longest = section.length.max(longest);
-        }
+    /// The greatest length of a section that can hold up jobs that are due by `t`; 0 if none can.
+    pub(crate) fn blocking_at(&self, t: Instant) -> u32
+        ensures { result ≡ blocking self.now.tasks.now self.now.sections.now t.ticks }
+    {
+        self.sections
+            .iter()
+            .filter(|section| self.can_block(section, t))
+            .map(|section| section.length)
+            .max()
+            .unwrap_or(0)
     }
-    longest
 }

@@ -6,6 +6,7 @@ pub mod admit;
 mod check;
 mod demand;
 mod idle;
+mod instant;
 mod judge;
 pub mod laws;
 pub mod pass;

@@ -1,22 +1,14 @@
-use Rattle.std.proofs.Common.{sym, ◌∙◌}
-use Rattle.std.proofs.lemmas.List.{at_drop_all}
-use Rattle.admission.specs.Sound.{levels_sound}
-use Rattle.admission.proofs.Runs.{level_is, levels_step}
+use Rattle.std.proofs.Common.{◌&&◌, ◌∙◌, rules, tests, refl}
+use Rattle.std.specs.List.{list_all}
+use Rattle.std.proofs.lemmas.Iterator.{YieldsList-from_slice}
+use Rattle.std.proofs.lemmas.Iterator.Search.{all_from_yields_List}
+use Rattle.std.proofs.lemmas.List.Recursion.{same_from_clauses}
+use Rattle.admission.specs.Sound.{level_sound, levels_sound}
 use Rattle.admission.proofs.check.levels_sound.Goals as goal
-
-pub returns-then-not-same_level : goal.returns-then-not-same_level
-returns-then-not-same_level c =
-    sym (levels_step c.args.tasks.now c.args.sections.now c.args.sections.now c.loop-section.section-index _ c.loop-section-test.true _
-    (level_is c.args.tasks.now c.args.sections.now _ _ _ _ c.if-not-same_level.ensures c.section_level.ensures c.letter_levels-levels.ensures))
-    ∙ c.loop-section.invariant
-
-pub loop-section-preserved : goal.loop-section-preserved
-loop-section-preserved c =
-    sym (levels_step c.args.tasks.now c.args.sections.now c.args.sections.now c.loop-section.section-index _ c.loop-section-test.true _
-    (level_is c.args.tasks.now c.args.sections.now _ _ _ _ c.if-not-same_level.ensures c.section_level.ensures c.letter_levels-levels.ensures))
-    ∙ c.loop-section.invariant
 
 pub returns : goal.returns
 returns c =
-    sym (at_drop_all (levels_sound c.args.tasks.now c.args.sections.now) c.args.sections.now c.loop-section.section-index c.loop-section-test.false)
-    ∙ c.loop-section.invariant
+    let ts = c.args.tasks.now in
+    let ss = c.args.sections.now in
+    all_from_yields_List (level_sound ts ss) _ _ _ c.all.ensures.ran (YieldsList-from_slice ss cc) (λ x b q k. search (rules, tests))
+    ∙ same_from_clauses (list_all (level_sound ts ss)) (levels_sound ts ss) (λ s b. level_sound ts ss s && b) refl (λ _ _. refl) (λ _ _. refl) ss
