@@ -20,8 +20,8 @@ abbrev pub fresh : ℕ → ℕ → Open
 fresh x n = record { section = x; serial = n }
 
 -- what is said of a grant, where the answer is one
-abbrev pub Granting : (ℕ → ℕ → Type 0) → Answer → Type 0
-Granting G (Advanced x r i) = Unit {0}
+abbrev pub Granting : (ℕ → ℕ → Type 0) → Answer Refusal → Type 0
+Granting G (Advanced (x, r, i)) = Unit {0}
 Granting G (Granted g) = G g.section g.serial
 Granting G (Running i) = Unit {0}
 Granting G (Refused r) = Unit {0}

@@ -5,6 +5,7 @@ use Rattle.queue.specs.declared.waiting.Waiting.{Waiting}
 use Rattle.queue.specs.declared.released.Released.{Released}
 use Rattle.machine.specs.declared.call.Call.{Call}
 use Rattle.machine.specs.declared.call.Answer.{Answer}
+use Rattle.machine.specs.declared.call.Refusal.{Refusal}
 use Rattle.machine.specs.declared.call.Answer.TheVariants.{Advanced, Granted, Running, Refused}
 use Rattle.machine.specs.State.{Table, Job, State, start, first_releases}
 use Rattle.machine.specs.Step.{step}
@@ -66,8 +67,8 @@ module _ (k : Table) where
   sections_run (c ∷ cs) s h = sections_run cs (step k c s).state (omega (arith, (told k c s).sections))
 
   -- a call makes one entry or none
-  one_entry : (s : State) (c : Call) (a : Answer) (s' : State) → entries_of (record { before = s; call = c; answer = a; after = s' }) ≤ 1
-  one_entry s c (Advanced x r i) s' = omega arith
+  one_entry : (s : State) (c : Call) (a : Answer Refusal) (s' : State) → entries_of (record { before = s; call = c; answer = a; after = s' }) ≤ 1
+  one_entry s c (Advanced (x, r, i)) s' = omega arith
   one_entry s c (Granted g) s' = omega arith
   one_entry s c (Running i) s' = omega arith
   one_entry s c (Refused r) s' = omega arith

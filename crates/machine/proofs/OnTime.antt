@@ -7,6 +7,7 @@ use Rattle.machine.specs.declared.call.Ticket.{Ticket}
 use Rattle.machine.specs.declared.call.Call.{Call}
 use Rattle.machine.specs.declared.call.Call.TheVariants.{Advance, Enter, Leave, Finish}
 use Rattle.machine.specs.declared.call.Answer.{Answer}
+use Rattle.machine.specs.declared.call.Refusal.{Refusal}
 use Rattle.machine.specs.declared.call.Answer.TheVariants.{Advanced, Granted, Running, Refused}
 use Rattle.machine.specs.State.{Table, Open, Job, State, start, cost, section_at}
 use Rattle.machine.specs.Step.{Outcome, step, not_advanced, refused, advanced, advanced_answer}
@@ -150,8 +151,8 @@ module _ (k : Table) (ok : Fit k) (S : ℕ → ℕ) where
               (λ n x. omega (arith, tr n x)) (λ n. omega (arith, ts n)) (λ x m. fit x (inr m)) i d later
         ]
 
-fits_granting : (k : Table) (h : List Event) (a : Answer) → GrantFits k h a → Granting (λ x n. stay n h ≤ (section_at k x).length) a
-fits_granting k h (Advanced x r i) g = tt
+fits_granting : (k : Table) (h : List Event) (a : Answer Refusal) → GrantFits k h a → Granting (λ x n. stay n h ≤ (section_at k x).length) a
+fits_granting k h (Advanced (x, r, i)) g = tt
 fits_granting k h (Granted t) g = g
 fits_granting k h (Running i) g = tt
 fits_granting k h (Refused r) g = tt

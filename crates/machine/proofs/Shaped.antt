@@ -7,6 +7,7 @@ use Rattle.queue.specs.declared.released.Released.{Released}
 use Rattle.machine.specs.declared.call.Call.{Call}
 use Rattle.machine.specs.declared.call.Call.TheVariants.{Advance, Enter, Leave, Finish}
 use Rattle.machine.specs.declared.call.Answer.{Answer}
+use Rattle.machine.specs.declared.call.Refusal.{Refusal}
 use Rattle.machine.specs.declared.call.Answer.TheVariants.{Advanced, Granted, Running, Refused}
 use Rattle.machine.specs.State.{Table, Job, State, start, section_at, inherited, first_releases}
 use Rattle.machine.specs.Step.{step, not_advanced, advanced}
@@ -35,8 +36,8 @@ still_settled k (e ∷ es) q qs x n st =
           (le-ltb e.relative (inherited k more) (omega (arith, ltb-false e.relative (inherited k q) f, or_lower_le (inherited k q) (section_at k x).level)))
     ]
 
-granting : (a : Answer) → Granting (λ _ _. Unit {0}) a
-granting (Advanced x r i) = tt
+granting : (a : Answer Refusal) → Granting (λ _ _. Unit {0}) a
+granting (Advanced (x, r, i)) = tt
 granting (Granted g) = tt
 granting (Running i) = tt
 granting (Refused r) = tt

@@ -9,6 +9,7 @@ use Rattle.queue.specs.declared.released.Released.{Released}
 use Rattle.admission.specs.Verdict.{Admitted}
 use Rattle.machine.specs.declared.call.Call.{Call}
 use Rattle.machine.specs.declared.call.Answer.{Answer}
+use Rattle.machine.specs.declared.call.Refusal.{Refusal}
 use Rattle.machine.specs.declared.call.Answer.TheVariants.{Advanced, Granted, Running, Refused}
 use Rattle.machine.specs.declared.call.Call.TheVariants.{Advance, Enter, Leave, Finish}
 use Rattle.machine.specs.State.{Table, Open, Job, State, relative, cost, section_at, inherited}
@@ -74,17 +75,17 @@ open_count (j ∷ js) = length j.opened + open_count js
 
 -- what a call adds to each count, by what it answered
 abbrev pub releases_of : Event → ℕ
-releases_of e = elim e.answer [ Advanced x r i ↦ r | Granted g ↦ 0 | Running i ↦ 0 | Refused r ↦ 0 ]
+releases_of e = elim e.answer [ Advanced (x, r, i) ↦ r | Granted g ↦ 0 | Running i ↦ 0 | Refused r ↦ 0 ]
 
 abbrev pub expiries_of : Event → ℕ
-expiries_of e = elim e.answer [ Advanced x r i ↦ x | Granted g ↦ 0 | Running i ↦ 0 | Refused r ↦ 0 ]
+expiries_of e = elim e.answer [ Advanced (x, r, i) ↦ x | Granted g ↦ 0 | Running i ↦ 0 | Refused r ↦ 0 ]
 
 abbrev pub entries_of : Event → ℕ
-entries_of e = elim e.answer [ Advanced x r i ↦ 0 | Granted g ↦ 1 | Running i ↦ 0 | Refused r ↦ 0 ]
+entries_of e = elim e.answer [ Advanced (x, r, i) ↦ 0 | Granted g ↦ 1 | Running i ↦ 0 | Refused r ↦ 0 ]
 
 -- an accepted call of this kind
-abbrev pub accepted : Answer → ℕ
-accepted (Advanced x r i) = 1
+abbrev pub accepted : Answer Refusal → ℕ
+accepted (Advanced (x, r, i)) = 1
 accepted (Granted g) = 1
 accepted (Running i) = 1
 accepted (Refused r) = 0

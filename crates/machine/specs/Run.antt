@@ -4,6 +4,7 @@ use Rattle.std.specs.Prelude.{◌≡◌, ℕ, ◌+◌, ◌-◌, ◌≤◌, Bool,
 use Rattle.queue.specs.declared.released.Released.{Released}
 use Rattle.machine.specs.declared.call.Call.{Call}
 use Rattle.machine.specs.declared.call.Answer.{Answer}
+use Rattle.machine.specs.declared.call.Refusal.{Refusal}
 use Rattle.machine.specs.declared.call.Answer.TheVariants.{Advanced, Granted, Running, Refused}
 use Rattle.machine.specs.State.{Table, Open, Job, State, start, cost, section_at}
 use Rattle.machine.specs.Step.{step}
@@ -12,7 +13,7 @@ use Rattle.machine.specs.Step.{step}
 pub record Event : Type 0 where
   pub before : State
   pub call : Call
-  pub answer : Answer
+  pub answer : Answer Refusal
   pub after : State
 
 -- the history of calls from a state, the first call first
@@ -71,8 +72,8 @@ is_open n [] = false
 is_open n (j ∷ js) = holds n j.opened || is_open n js
 
 -- how often a grant with a serial was given
-abbrev pub gives : ℕ → Answer → ℕ
-gives n (Advanced e r i) = 0
+abbrev pub gives : ℕ → Answer Refusal → ℕ
+gives n (Advanced (e, r, i)) = 0
 gives n (Granted g) = cond (g.serial == n) 1 0
 gives n (Running i) = 0
 gives n (Refused r) = 0
@@ -98,8 +99,8 @@ abbrev pub Present : ℕ → ℕ → State → Type 0
 Present i d s = IsReleased i d s.released ⊎ OnStack i d s.stack
 
 -- the call is an advance that was not refused
-abbrev pub IsAdvance : Answer → Type 0
-IsAdvance (Advanced e r i) = Unit {0}
+abbrev pub IsAdvance : Answer Refusal → Type 0
+IsAdvance (Advanced (e, r, i)) = Unit {0}
 IsAdvance (Granted g) = ⊥
 IsAdvance (Running i) = ⊥
 IsAdvance (Refused r) = ⊥
@@ -114,8 +115,8 @@ Somewhere P [] = ⊥
 Somewhere P (e ∷ es) = P e ⊎ Somewhere P es
 
 -- the stay of a grant has not gone past its section's length
-abbrev pub GrantFits : Table → List Event → Answer → Type 0
-GrantFits k h (Advanced e r i) = Unit {0}
+abbrev pub GrantFits : Table → List Event → Answer Refusal → Type 0
+GrantFits k h (Advanced (e, r, i)) = Unit {0}
 GrantFits k h (Granted g) = stay g.serial h ≤ (section_at k g.section).length
 GrantFits k h (Running i) = Unit {0}
 GrantFits k h (Refused r) = Unit {0}

@@ -120,8 +120,8 @@ not_advanced t s =
     cond (nat_lt t s.clock) (Some Past) (cond (nat_lt last_instant t) (Some Far) (elim (beyond t (due s)) [ None ↦ None | Some d ↦ Some (BeyondDue d) ]))
 
 -- what an advance answers
-abbrev pub advanced_answer : State → State → Answer
-advanced_answer s s' = Advanced (s'.counts.expiries - s.counts.expiries) (s'.counts.releases - s.counts.releases) (running s'.stack)
+abbrev pub advanced_answer : State → State → Answer Refusal
+advanced_answer s s' = Advanced (s'.counts.expiries - s.counts.expiries, s'.counts.releases - s.counts.releases, running s'.stack)
 
 -- whether two places among the sections are the same
 abbrev pub same_place : Option ℕ → Option ℕ → Bool
@@ -156,7 +156,7 @@ finishing c = record { releases = c.releases; finishes = c.finishes + 1; expirie
 -- what is left of a call: the state, and the answer
 pub record Outcome : Type 0 where
   pub state : State
-  pub answer : Answer
+  pub answer : Answer Refusal
 
 abbrev pub refused : State → Refusal → Outcome
 refused s r = record { state = s; answer = Refused r }
