@@ -9,8 +9,8 @@ use Rattle.machine.specs.declared.call.Refusal.TheVariants.{NotInnermost, NotOpe
 use Rattle.machine.specs.State.{Table, Job, State, inherited}
 use Rattle.machine.specs.State.{Counts as Tally}
 use Rattle.machine.specs.Step.{step}
-use Rattle.scheduler.specs.declared.answer.Answer.{Answer}
-use Rattle.scheduler.specs.declared.answer.Answer.TheVariants.{Advanced, Granted, Running as Runs, Refused}
+use Rattle.machine.specs.declared.call.Answer.{Answer}
+use Rattle.machine.specs.declared.call.Answer.TheVariants.{Advanced, Granted, Running as Runs, Refused}
 use Rattle.scheduler.specs.declared.answer.Refusal.{Refusal}
 use Rattle.scheduler.specs.declared.answer.Refusal.TheVariants.{Shut, Machine}
 use Rattle.scheduler.specs.declared.question.Counts.{Counts}
@@ -24,18 +24,18 @@ use Rattle.scheduler.specs.Answered.{told, refusal_number}
 use Rattle.scheduler.specs.View.{tally_of}
 
 -- what a core answers to a call in a state, and the state that it is left in
-abbrev pub answer_of : Bool → Table → Call → State → Answer
+abbrev pub answer_of : Bool → Table → Call → State → Answer Refusal
 answer_of live k c s = cond live (told (step k c s).answer) (Refused Shut)
 
 abbrev pub state_after : Bool → Table → Call → State → State
 state_after live k c s = cond live (step k c s).state s
 
 -- the results of the four calls, as answers
-abbrev pub of_advance : Result (ℕ × ℕ × ℕ) Refusal → Answer
+abbrev pub of_advance : {R : Type 0} → Result (ℕ × ℕ × ℕ) R → Answer R
 of_advance (Ok a) = Advanced a
 of_advance (Err r) = Refused r
 
-abbrev pub of_enter : Result Grant Refusal → Answer
+abbrev pub of_enter : {R : Type 0} → Result Grant R → Answer R
 of_enter (Ok g) = Granted g.ticket
 of_enter (Err r) = Refused r
 
@@ -45,11 +45,11 @@ refusal_of (ShutBack g) = Shut
 refusal_of (NotInnermostBack g) = Machine (NotInnermost g.ticket)
 refusal_of Spent = Machine NotOpen
 
-abbrev pub of_leave : Result ℕ LeaveRefusal → Answer
+abbrev pub of_leave : Result ℕ LeaveRefusal → Answer Refusal
 of_leave (Ok i) = Runs i
 of_leave (Err r) = Refused (refusal_of r)
 
-abbrev pub of_finish : Result ℕ Refusal → Answer
+abbrev pub of_finish : {R : Type 0} → Result ℕ R → Answer R
 of_finish (Ok i) = Runs i
 of_finish (Err r) = Refused r
 
