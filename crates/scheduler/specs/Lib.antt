@@ -1,5 +1,6 @@
 pub mod Words
 pub mod Copies
+pub mod Kept
 pub mod View
 pub mod Steady
 pub mod Moves

@@ -3,11 +3,12 @@ ghost use Rattle.std.specs.Prelude.{◌≡◌, ◌+◌, ◌<◌, ◌≤◌, Matc
 ghost use Rattle.table.specs.Limits.{most_tasks, deepest};
 ghost use Rattle.machine.specs.Step.{most_entries, opens_for, among_open};
 ghost use Rattle.scheduler.specs.View.{open_of, opens_of};
-ghost use Rattle.scheduler.specs.Moves.{fresh, top_of, most, pushed, popped, expired_by, finished_by, lapsed_by, released_by, entered_by, left_by, is_due, place_from, running_of, deadline_of, last_open, innermost_for};
+ghost use Rattle.scheduler.specs.Moves.{fresh, top_of, most, pushed, popped, expired_by, finished_by, lapsed_by, released_by, entered_by, left_by, with_clock, is_due, place_from, running_of, deadline_of, last_open, innermost_for};
 
 use crate::answer::NOBODY;
 use crate::question::{Counts, Place};
 use machine::call::Ticket;
+use std::marker::Model;
 use table::limits::{DEEPEST, MOST_TASKS};
 
 /// A section that is open, with the serial of the entry that opened it.
@@ -105,6 +106,18 @@ pub struct Inner {
     pub counts: Counts,
 }
 
+impl Model for Inner {
+    ghost use Rattle.std.specs.Prelude.{◌≤◌};
+    ghost use Rattle.table.specs.Limits.{most_tasks};
+    ghost use Rattle.scheduler.specs.Kept.{Kept};
+
+    ghost Value = { Kept };
+
+    ghost view = { λ i. record { clock = i.clock; depth = i.depth; stack = i.stack; spots = i.spots; counts = i.counts } };
+
+    ghost invariant = { λ i. i.depth ≤ most_tasks };
+}
+
 impl Inner {
     /// What a new core keeps: the clock at 0, an empty stack, and nothing counted.
     pub(crate) fn new() -> Inner
@@ -121,7 +134,6 @@ impl Inner {
 
     /// The running job.
     pub(crate) fn top(&self) -> Option<&StackRecord>
-        requires { self.now.depth ≤ most_tasks }
         ensures { MatchOption result (self.now.depth ≡ 0) (λ job. (0 < self.now.depth) × (job.now ≡ top_of self.now)) }
     {
         self.stack[..self.depth].last()
@@ -143,7 +155,7 @@ impl Inner {
 
     /// Takes the running job off the stack, so that its task waits; answers how many sections it had open.
     fn pop(&mut self) -> usize
-        requires { (0 < self.old.depth) × (self.old.depth ≤ most_tasks) × ((top_of self.old).task < most_tasks) }
+        requires { (0 < self.old.depth) × ((top_of self.old).task < most_tasks) }
         ensures open { result ≡ (top_of self.old).count }
         ensures after { self.new ≡ popped self.old }
     {
@@ -155,7 +167,7 @@ impl Inner {
 
     /// The running job ends at its deadline: it comes off the stack, its open sections are taken back, and its task waits.
     pub(crate) fn expire(&mut self)
-        requires top { (0 < self.old.depth) × (self.old.depth ≤ most_tasks) × ((top_of self.old).task < most_tasks) × ((top_of self.old).count ≤ deepest) }
+        requires top { (0 < self.old.depth) × ((top_of self.old).task < most_tasks) × ((top_of self.old).count ≤ deepest) }
         requires counts { (self.old.counts.expiries < most) × (self.old.counts.taken + (top_of self.old).count ≤ most_entries) }
         ensures { self.new ≡ expired_by self.old }
     {
@@ -165,7 +177,7 @@ impl Inner {
 
     /// The running job is done: it comes off the stack, and its task waits.
     pub(crate) fn finish(&mut self)
-        requires top { (0 < self.old.depth) × (self.old.depth ≤ most_tasks) × ((top_of self.old).task < most_tasks) }
+        requires top { (0 < self.old.depth) × ((top_of self.old).task < most_tasks) }
         requires counts { self.old.counts.finishes < most }
         ensures { self.new ≡ finished_by self.old }
     {
@@ -193,7 +205,7 @@ impl Inner {
 
     /// The running job enters a section; answers the serial of the entry.
     pub(crate) fn enter(&mut self, section: u32) -> u32
-        requires top { (0 < self.old.depth) × (self.old.depth ≤ most_tasks) × ((top_of self.old).count < deepest) }
+        requires top { (0 < self.old.depth) × ((top_of self.old).count < deepest) }
         requires counts { self.old.counts.entries < most_entries }
         ensures serial { result ≡ self.old.counts.entries }
         ensures after { self.new ≡ entered_by self.old section }
@@ -208,7 +220,7 @@ impl Inner {
 
     /// The running job leaves its innermost section.
     pub(crate) fn leave(&mut self)
-        requires top { (0 < self.old.depth) × (self.old.depth ≤ most_tasks) × (0 < (top_of self.old).count) }
+        requires top { (0 < self.old.depth) × (0 < (top_of self.old).count) }
         requires counts { self.old.counts.leaves < most_entries }
         ensures { self.new ≡ left_by self.old }
     {
@@ -217,9 +229,15 @@ impl Inner {
         self.counts.leaves += 1;
     }
 
+    /// The clock goes on to an instant.
+    pub(crate) fn set_clock(&mut self, t: u64)
+        ensures { self.new ≡ with_clock self.old t }
+    {
+        self.clock = t;
+    }
+
     /// Whether the running job is due at an instant.
     pub(crate) fn is_due(&self, t: u64) -> bool
-        requires { self.now.depth ≤ most_tasks }
         ensures { result ≡ is_due self.now t }
     {
         self.top().is_some_and(|job| job.deadline == t)
@@ -227,7 +245,7 @@ impl Inner {
 
     /// The running task, or 32 for none.
     pub(crate) fn running(&self) -> u32
-        requires { (self.now.depth ≤ most_tasks) × (0 < self.now.depth → (top_of self.now).task < most_tasks) }
+        requires { 0 < self.now.depth → (top_of self.now).task < most_tasks }
         ensures { result ≡ running_of self.now }
     {
         match self.top() {
@@ -238,7 +256,6 @@ impl Inner {
 
     /// The absolute deadline of the running job.
     pub(crate) fn deadline(&self) -> Option<u64>
-        requires { self.now.depth ≤ most_tasks }
         ensures { result ≡ deadline_of self.now }
     {
         self.top().map(|job| job.deadline)
@@ -246,7 +263,7 @@ impl Inner {
 
     /// Whether a grant is the running job's innermost.
     pub(crate) fn is_innermost(&self, ticket: Ticket) -> bool
-        requires { (self.now.depth ≤ most_tasks) × (0 < self.now.depth → (top_of self.now).count ≤ deepest) }
+        requires { 0 < self.now.depth → (top_of self.now).count ≤ deepest }
         ensures { result ≡ innermost_for ticket self.now }
     {
         let Some(job) = self.top() else {

@@ -38,8 +38,8 @@ impl<W: Queue<Entry = Waiting>, R: Queue<Entry = Released>> Engine<W, R> {
         ensures value { of_advance result ≡ (step (table_of self.old.records) (Advance t) (state_in W.Queue R.Queue self.old)).answer }
         ensures after { state_in W.Queue R.Queue self.new ≡ (step (table_of self.old.records) (Advance t) (state_in W.Queue R.Queue self.old)).state }
     {
-        check_instant(t, self.inner.clock, self.due())?;
-        self.inner.clock = t;
+        check_instant(t, self.clock(), self.due())?;
+        self.inner.set_clock(t);
         let ended = self.expire_running(t);
         let lapsed = self.lapse(t);
         let released = self.release(t);

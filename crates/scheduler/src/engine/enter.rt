@@ -18,11 +18,12 @@ impl<W: Queue<Entry = Waiting>, R: Queue<Entry = Released>> Engine<W, R> {
     fn check_entry(&self, section: usize) -> Result<usize, call::Refusal>
         ensures { MatchResult result (λ task. (enter_refusal self.now.records self.now.inner section ≡ None) × (task ≡ (top_of self.now.inner).task)) (λ r. enter_refusal self.now.records self.now.inner section ≡ Some r) }
     {
-        let job = self.inner.top().ok_or(call::Refusal::NothingRuns)?;
+        let inner = &self.inner;
+        let job = inner.top().ok_or(call::Refusal::NothingRuns)?;
         if !self.records.enterable(section, job) {
             return Err(call::Refusal::NotEnterable);
         }
-        if self.inner.counts.entries == u32::MAX {
+        if inner.counts.entries == u32::MAX {
             return Err(call::Refusal::TooManyEntries);
         }
         Ok(job.task)

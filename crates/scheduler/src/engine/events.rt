@@ -15,7 +15,8 @@ impl<W: Queue<Entry = Waiting>, R: Queue<Entry = Released>> Engine<W, R> {
         requires { 0 < self.now.inner.depth }
         ensures { result ≡ again_of (table_of self.now.records) self.now.inner }
     {
-        let top = &self.inner.stack[self.inner.depth - 1];
+        let inner = &self.inner;
+        let top = &inner.stack[inner.depth - 1];
         self.records.next_release(top.task, top.deadline)
     }
 

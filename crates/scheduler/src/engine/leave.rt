@@ -19,8 +19,9 @@ impl<W: Queue<Entry = Waiting>, R: Queue<Entry = Released>> Engine<W, R> {
     fn is_open(&self, ticket: Ticket) -> bool
         ensures { result ≡ opened_for ticket self.now.inner }
     {
-        match self.inner.spots.get(ticket.task) {
-            Some(Spot::Stacked(at)) => self.inner.stack[*at].holds(ticket),
+        let inner = &self.inner;
+        match inner.spots.get(ticket.task) {
+            Some(Spot::Stacked(at)) => inner.stack[*at].holds(ticket),
             _ => false,
         }
     }

@@ -24,7 +24,8 @@ impl<W: Queue<Entry = Waiting>, R: Queue<Entry = Released>> Engine<W, R> {
     pub(crate) fn clock(&self) -> u64
         ensures { result ≡ self.now.inner.clock }
     {
-        self.inner.clock
+        let inner = &self.inner;
+        inner.clock
     }
 
     /// The absolute deadline of the first released job.
@@ -56,7 +57,8 @@ impl<W: Queue<Entry = Waiting>, R: Queue<Entry = Released>> Engine<W, R> {
         if task >= self.records.sizes.tasks {
             return None;
         }
-        Some(Place::from(self.inner.spots[task]))
+        let inner = &self.inner;
+        Some(Place::from(inner.spots[task]))
     }
 
     /// The running task with its deadlines.
@@ -75,6 +77,7 @@ impl<W: Queue<Entry = Waiting>, R: Queue<Entry = Released>> Engine<W, R> {
     pub(crate) fn counts(&self) -> Counts
         ensures { result ≡ self.now.inner.counts }
     {
-        self.inner.counts
+        let inner = &self.inner;
+        inner.counts
     }
 }

@@ -2,9 +2,10 @@ use Rattle.std.proofs.Common.{rules, ◌≡◌, ◌+◌, ◌-◌, Some, None, Er
 use Rattle.machine.specs.declared.call.Call.TheVariants.{Advance}
 use Rattle.machine.specs.declared.call.Answer.TheVariants.{Advanced}
 use Rattle.machine.specs.State.{State, running, due}
-use Rattle.machine.specs.Step.{Outcome, step, refused, not_advanced, lapsed, released_at, selected, advanced, advanced_answer}
+use Rattle.machine.specs.Step.{Outcome, step, refused, not_advanced, top_expired, lapsed, released_at, selected, advanced, advanced_answer}
 use Rattle.scheduler.specs.declared.records.Records.{Records}
 use Rattle.scheduler.specs.declared.question.Counts.{Counts}
+use Rattle.scheduler.specs.declared.stack.Inner.{Inner}
 use Rattle.scheduler.specs.View.{table_of, jobs_of, state_of}
 use Rattle.scheduler.specs.Moves.{refused_at}
 use Rattle.scheduler.specs.Parts.{Parts, state_in}
@@ -23,7 +24,9 @@ refused_is g c =
     let s = state_of p.inner (g.W.Queue.list p.waiting) (g.R.Queue.list p.released) in
     let r = c.in_err-check_instant.field-0.0 in
     let why : not_advanced c.args.t s ≡ Some r =
-    ap (refused_at c.args.t p.inner.clock) (ap (λ (q : Parts _ _). due (state_in g.W.Queue g.R.Queue q)) c.self.view_is ∙ sym c.due.ensures) ∙ c.in_err-check_instant.ensures in
+    ap (λ (q : Parts _ _). not_advanced c.args.t (state_in g.W.Queue g.R.Queue q)) c.self.view_is
+    ∙ ap (λ n. refused_at c.args.t n (due (state_in g.W.Queue g.R.Queue c.args.self.now))) (sym c.clock.ensures) ∙ ap (refused_at c.args.t c.clock.result) (sym c.due.ensures)
+    ∙ c.in_err-check_instant.ensures in
     advance_refused (table_of p.records) c.args.t s r why
 
 pub returns-in_err-check_instant-clause-value : goal.returns-in_err-check_instant-clause-value
@@ -45,7 +48,9 @@ module _ (g : Over) (c : goal.After-running g) where
   done_is : step (table_of c.self.inside.records) (Advance c.args.t) start ≡ passed (table_of c.self.inside.records) c.args.t start
   done_is =
       let why : not_advanced c.args.t start ≡ None =
-      ap (refused_at c.args.t c.self.inside.inner.clock) (ap (λ (q : Parts _ _). due (state_in g.W.Queue g.R.Queue q)) c.self.view_is ∙ sym c.due.ensures) ∙ c.in_ok-check_instant.ensures in
+      ap (λ (q : Parts _ _). not_advanced c.args.t (state_in g.W.Queue g.R.Queue q)) c.self.view_is
+      ∙ ap (λ n. refused_at c.args.t n (due (state_in g.W.Queue g.R.Queue c.args.self.now))) (sym c.clock.ensures) ∙ ap (refused_at c.args.t c.clock.result) (sym c.due.ensures)
+      ∙ c.in_ok-check_instant.ensures in
       advance_done (table_of c.self.inside.records) c.args.t start why
 
   reached : end ≡ advanced (table_of c.self.inside.records) c.args.t start
@@ -58,7 +63,9 @@ module _ (g : Over) (c : goal.After-running g) where
       let r1 = c.expire_running-ended.ensures.records in
       let r2 = c.lapse-lapsed.ensures.records ∙ r1 in
       let r3 = c.release-released.ensures.records ∙ r2 in
-      advance_is (table_of c.self.inside.records) t start s1 s2 s3 end c.expire_running-ended.ensures.after
+      let p = c.self.inside in
+      let on : Inner → State = λ i. top_expired (table_of p.records) t (state_of i (g.W.Queue.list p.waiting) (g.R.Queue.list p.released)) (jobs_of i.stack i.depth) in
+      advance_is (table_of p.records) t start s1 s2 s3 end (c.expire_running-ended.ensures.after ∙ ap on c.set_clock.ensures)
       (c.lapse-lapsed.ensures.after ∙ ap (λ (x : Records). lapsed (table_of x) t s1 s1.released) r1)
       (c.release-released.ensures.after ∙ ap (λ (x : Records). released_at (table_of x) t s2 s2.waiting) r2)
       (c.select.ensures.after ∙ ap (λ (x : Records). selected (table_of x) s3) r3)
@@ -69,9 +76,9 @@ returns-clause-value g c =
     let s4 = end g c in
     let tall = c.self-2.invariant.steady.tall in
     let ends : c.expire_running-ended.result + c.lapse-lapsed.result ≡ s4.counts.expiries - s.counts.expiries =
-    omega (arith, c.expire_running-ended.ensures.counts.0, c.lapse-lapsed.ensures.counts.0, c.release-released.ensures.counts.1, ap (λ (n : Counts). n.expiries) c.select.ensures.counts) in
+    omega (arith, c.expire_running-ended.ensures.counts.0, ap (λ (i : Inner). i.counts.expiries) c.set_clock.ensures, c.lapse-lapsed.ensures.counts.0, c.release-released.ensures.counts.1, ap (λ (n : Counts). n.expiries) c.select.ensures.counts) in
     let outs : c.release-released.result ≡ s4.counts.releases - s.counts.releases =
-    omega (arith, c.expire_running-ended.ensures.counts.1, c.lapse-lapsed.ensures.counts.1, c.release-released.ensures.counts.0, ap (λ (n : Counts). n.releases) c.select.ensures.counts) in
+    omega (arith, c.expire_running-ended.ensures.counts.1, ap (λ (i : Inner). i.counts.releases) c.set_clock.ensures, c.lapse-lapsed.ensures.counts.1, c.release-released.ensures.counts.0, ap (λ (n : Counts). n.releases) c.select.ensures.counts) in
     let runs : c.running.result ≡ running s4.stack =
     c.running.ensures ∙ running_over c.self-2.inside.inner (omega (arith, tall.0, tall.2)) ∙ ap (λ (q : Parts _ _). running (jobs_of q.inner.stack q.inner.depth)) c.self-2.view_is in
     rw (← c.self.view_is)

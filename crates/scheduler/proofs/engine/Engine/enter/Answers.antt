@@ -42,7 +42,7 @@ enter-serial-requires-clause-top g c =
     let p = c.self.inside in
     let why = ap (λ (q : Parts _ _). enter_refusal q.records q.inner c.args.section) c.self.view_is ∙ c.in_ok-task.ensures.0 in
     let open-to = enter_some p.records p.inner c.self.invariant.steady c.args.section (sym why) in
-    (open-to.some, omega (arith, c.self.invariant.steady.tall.2), open-to.room)
+    (open-to.some, open-to.room)
 
 pub invariant_of-self : goal.invariant_of-self
 invariant_of-self g c =
