@@ -7,8 +7,7 @@ use Rattle.queue.specs.declared.released.Released.{Released}
 use Rattle.machine.specs.declared.call.Refusal.{Refusal}
 use Rattle.machine.specs.declared.call.Refusal.TheVariants.{Past, Far, BeyondDue}
 use Rattle.machine.specs.State.{Table, Job, State, sooner, top_deadline, first_deadline, first_release, due}
-use Rattle.machine.specs.declared.call.Call.TheVariants.{Advance}
-use Rattle.machine.specs.Step.{beyond, not_advanced, last_instant, Outcome, refused, advanced, advanced_answer, step}
+use Rattle.machine.specs.Step.{beyond, not_advanced, last_instant}
 use Rattle.machine.proofs.Lists.{Sorted, Rising, all_map}
 use Rattle.machine.proofs.Shape.{Shape}
 
@@ -40,17 +39,21 @@ accepted t s e =
     let b = cond_none (ltb last_instant t) Far _ a.1 in
     (ltb-false _ _ a.0, due_refusal (beyond t (due s)) b.1)
 
+-- where the first of a sorted list is not before t, nothing in it is
+from_first : {X : Type 0} (f : X → ℕ) (t : ℕ) (x : X) (xs : List X) → AllByRecursion (λ y. f x ≤ f y) xs → beyond t (Some (f x)) ≡ None → AllByRecursion (λ y. t ≤ f y) (x ∷ xs)
+from_first f t x xs so e = let le = upto t (f x) e in (le, all_map (λ y. f x ≤ f y) (λ y. t ≤ f y) (λ y h. omega arith) xs so)
+
 first_waits : (t : ℕ) (w : List Waiting) → Sorted (λ a. a.release) w → beyond t (first_release w) ≡ None → AllByRecursion (λ a. t ≤ a.release) w
 first_waits t [] so e = tt
-first_waits t (a ∷ w) so e = let le = upto t a.release e in (le, all_map (λ z. a.release ≤ z.release) (λ z. t ≤ z.release) (λ z h. omega arith) w so.0)
+first_waits t (a ∷ w) so e = from_first (λ z. z.release) t a w so.0 e
 
 first_out : (t : ℕ) (r : List Released) → Sorted (λ e. e.deadline) r → beyond t (first_deadline r) ≡ None → AllByRecursion (λ e. t ≤ e.deadline) r
 first_out t [] so e = tt
-first_out t (a ∷ r) so e = let le = upto t a.deadline e in (le, all_map (λ z. a.deadline ≤ z.deadline) (λ z. t ≤ z.deadline) (λ z h. omega arith) r so.0)
+first_out t (a ∷ r) so e = from_first (λ z. z.deadline) t a r so.0 e
 
 first_stands : (t : ℕ) (s : List Job) → Rising (λ q. q.deadline) s → beyond t (top_deadline s) ≡ None → AllByRecursion (λ q. t ≤ q.deadline) s
 first_stands t [] ri e = tt
-first_stands t (q ∷ qs) ri e = let le = upto t q.deadline e in (le, all_map (λ z. q.deadline < z.deadline) (λ z. t ≤ z.deadline) (λ z h. omega arith) qs ri.0)
+first_stands t (q ∷ qs) ri e = from_first (λ z. z.deadline) t q qs (all_map (λ z. q.deadline < z.deadline) (λ z. q.deadline ≤ z.deadline) (λ z h. omega arith) qs ri.0) e
 
 -- everything is due at t or later
 pub record Ahead (t : ℕ) (w : List Waiting) (r : List Released) (s : List Job) : Type 0 where
@@ -63,13 +66,3 @@ ahead k c t s i e =
     let a = upto_both t (top_deadline s.stack) _ e in
     let b = upto_both t (first_deadline s.released) (first_release s.waiting) a.1 in
     record { waits = first_waits t s.waiting i.by_release b.1; readies = first_out t s.released i.by_deadline b.0; jobs = first_stands t s.stack i.rising a.0 }
-
--- what an advance leaves, by why it is refused
-abbrev outcome_of : Table → ℕ → State → Option Refusal → Outcome
-outcome_of k t s o = elim o [ Some r ↦ refused s r | None ↦ record { state = advanced k t s; answer = advanced_answer s (advanced k t s) } ]
-
-pub advance_cases : (k : Table) (t : ℕ) (s : State) (P : Outcome → Type 0) → ((r : Refusal) → P (refused s r))
-    → (not_advanced t s ≡ None → P (record { state = advanced k t s; answer = advanced_answer s (advanced k t s) })) → P (step k (Advance t) s)
-unfolding step
-advance_cases k t s P refuses accepts =
-    elim (not_advanced t s) as (λ o. not_advanced t s ≡ o → P (outcome_of k t s o)) [ Some r ↦ λ _. refuses r | None ↦ λ e. accepts e ] refl
