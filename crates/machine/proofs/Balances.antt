@@ -1,5 +1,5 @@
 -- The counts and balances of every run: counts are what the history tells, no job, section or task is lost, and no grant ends twice.
-use Rattle.std.proofs.Common.{◌≡◌, ℕ, zero, suc, ◌+◌, ◌<◌, ◌≤◌, Bool, true, false, cond, eqb, ltb, ◌⊎◌, List, [], ◌∷◌, length, refl, inl, inr, arith}
+use Rattle.std.proofs.Common.{◌≡◌, ℕ, zero, suc, ◌+◌, ◌<◌, ◌≤◌, Bool, true, cond, eqb, ltb, ◌⊎◌, List, [], ◌∷◌, length, refl, inl, inr, arith}
 use Rattle.std.proofs.lemmas.Bool.{cases_Bool, cases_eq}
 use Rattle.std.proofs.lemmas.Bool.Decides.{nat_tests}
 use Rattle.std.proofs.lemmas.List.Recursion.{same_from_clauses}
@@ -11,7 +11,7 @@ use Rattle.machine.specs.declared.call.Refusal.{Refusal}
 use Rattle.machine.specs.declared.call.Answer.TheVariants.{Advanced, Granted, Running, Refused}
 use Rattle.machine.specs.State.{Table, Job, State, start, first_releases}
 use Rattle.machine.specs.Step.{step}
-use Rattle.machine.specs.Run.{Event, history_from, history, state_from, reached, total, gives, given, ended, is_open}
+use Rattle.machine.specs.Run.{Event, history_from, history, state_from, reached, total, gives, ended, is_open}
 use Rattle.machine.specs.Promise.{waits, is_out, stands, open_count, releases_of, expiries_of, finishes_of, entries_of, leaves_of, taken_of, Counted, Balance}
 use Rattle.machine.proofs.Lists.{tot}
 use Rattle.machine.proofs.Shape.{Shape}

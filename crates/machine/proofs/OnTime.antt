@@ -5,9 +5,6 @@ use Rattle.std.proofs.lemmas.Bool.{cond-true, and_from, eq-eqb, or_left, or_righ
 use Rattle.admission.specs.Verdict.{Admitted}
 use Rattle.machine.specs.declared.call.Call.{Call}
 use Rattle.machine.specs.declared.call.Call.TheVariants.{Advance, Enter, Leave, Finish}
-use Rattle.machine.specs.declared.call.Answer.{Answer}
-use Rattle.machine.specs.declared.call.Refusal.{Refusal}
-use Rattle.machine.specs.declared.call.Answer.TheVariants.{Advanced, Granted, Running, Refused}
 use Rattle.machine.specs.State.{Table, Open, Job, State, start, cost, section_at}
 use Rattle.machine.specs.Step.{Outcome, step, not_advanced, refused, put_back, leaving, finishing}
 use Rattle.machine.specs.Run.{Event, history_from, history, moved, runs, run_time, holds, stays_in, stay, Present, IsAdvance, Expires, Somewhere, GrantFits}
@@ -23,13 +20,6 @@ use Rattle.machine.proofs.Law.{law_more}
 use Rattle.machine.proofs.Lawful.{Top, tick_law}
 use Rattle.machine.proofs.Told.{event_of}
 use Rattle.machine.proofs.Expiry.{Caps, Sured, advanced_tracked, entered_sured, left_sured, finished_sured}
-
--- what is said of a grant, where the answer is one
-abbrev Granting : (ℕ → ℕ → Type 0) → Answer Refusal → Type 0
-Granting G (Advanced (x, r, i)) = Unit {0}
-Granting G (Granted g) = G g.section g.serial
-Granting G (Running i) = Unit {0}
-Granting G (Refused r) = Unit {0}
 
 -- the run times and stays after a call at whose start these jobs were on the stack
 abbrev ran_on : (ℕ → ℕ → ℕ) → List Job → ℕ → ℕ → ℕ → ℕ
@@ -48,7 +38,11 @@ holds_all : (all os : List Open) → ((n : ℕ) → holds n os ≡ true → hold
 holds_all all [] f = tt
 holds_all all (o ∷ os) f = (f o.serial (or_left _ _ (eq-eqb o.serial o.serial refl)), holds_all all os (λ n h. f n (or_right (eqb o.serial n) _ h)))
 
-module _ (k : Table) (ok : Fit k) (S : ℕ → ℕ) where
+module _ (k : Table) (ok : Fit k) (all : List Event) where
+  -- how long each stay is in the end
+  abbrev S : ℕ → ℕ
+  S n = stay n all
+
   -- what the clock's movement adds for the running job
   top_ticks : (m : ℕ) (ran : ℕ → ℕ → ℕ) (st : ℕ → ℕ) (js : List Job) → Caps k S js
       → ((i d : ℕ) → ran_on ran js m i d ≤ cost k i) → ((n : ℕ) → stayed_on st js m n ≤ S n) → Top k m ran (ran_on ran js m) st (stayed_on st js m) js
@@ -91,7 +85,7 @@ module _ (k : Table) (ok : Fit k) (S : ℕ → ℕ) where
   abbrev Steps : (ℕ → ℕ → ℕ) → (ℕ → ℕ) → State → Call → Outcome → Type 0
   Steps ran st s c o =
       Sured k S ran st s → ((i d : ℕ) → ran_on ran s.stack (moved (event_of s c o)) i d ≤ cost k i) → ((n : ℕ) → stayed_on st s.stack (moved (event_of s c o)) n ≤ S n)
-      → Granting (λ x n. S n ≤ (section_at k x).length) o.answer → Stepped k S ran st s c o
+      → GrantFits k all o.answer → Stepped k S ran st s c o
 
   step_cases : (ran : ℕ → ℕ → ℕ) (st : ℕ → ℕ) → Cases k (Steps ran st)
   step_cases ran st = record {
@@ -106,7 +100,7 @@ module _ (k : Table) (ok : Fit k) (S : ℕ → ℕ) where
     -- run times and stays so far and of the calls to come make up the whole
     expired_done : (cs : List Call) (s : State) (ran : ℕ → ℕ → ℕ) (st : ℕ → ℕ) → Sured k S ran st s
         → ((i d : ℕ) → ran i d + run_time i d (history_from k s cs) ≡ R i d) → ((n : ℕ) → st n + stay n (history_from k s cs) ≡ S n)
-        → ((e : Event) → Somewhere (λ x. x ≡ e) (history_from k s cs) → Granting (λ x n. S n ≤ (section_at k x).length) e.answer)
+        → ((e : Event) → Somewhere (λ x. x ≡ e) (history_from k s cs) → GrantFits k all e.answer)
         → (i d : ℕ) → Somewhere (Expires i d) (history_from k s cs) → R i d ≡ cost k i
     expired_done [] s ran st h tr ts fit i d some = absurd some
     expired_done (c ∷ cs) s ran st h tr ts fit i d some =
@@ -119,17 +113,11 @@ module _ (k : Table) (ok : Fit k) (S : ℕ → ℕ) where
               (λ n x. omega (arith, tr n x)) (λ n. omega (arith, ts n)) (λ x m. fit x (inr m)) i d later
         ]
 
-fits_granting : (k : Table) (h : List Event) (a : Answer Refusal) → GrantFits k h a → Granting (λ x n. stay n h ≤ (section_at k x).length) a
-fits_granting k h (Advanced (x, r, i)) g = tt
-fits_granting k h (Granted t) g = g
-fits_granting k h (Running i) g = tt
-fits_granting k h (Refused r) g = tt
-
 pub on_time : (k : Table) (idle : ℕ) → Admitted k.tasks k.sections idle → (cs : List Call) → OnTime k (history k cs)
 on_time k idle ad cs kept =
     let ok = fit_if_admitted k idle ad in
     let h = history k cs in
     let z = start_shaped k ok in
-    expired_done k ok (λ n. stay n h) (λ i d. run_time i d h) kept.jobs cs (start k) (λ _ _. 0) (λ _. 0)
+    expired_done k ok h (λ i d. run_time i d h) kept.jobs cs (start k) (λ _ _. 0) (λ _. 0)
     (record { settled = z.settled; sure = record { shape = z.shape; law = λ d le. inl (tt, tt); caps = tt } })
-    (λ i d. omega arith) (λ n. omega arith) (λ e m. fits_granting k h e.answer (kept.stays e m))
+    (λ i d. omega arith) (λ n. omega arith) kept.stays
