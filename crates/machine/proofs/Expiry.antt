@@ -2,6 +2,7 @@
 use Rattle.std.proofs.Common.{◌≡◌, ℕ, ◌<◌, ◌≤◌, Bool, ◌⊎◌, List, [], ◌∷◌, length, refl, inl, inr, arith}
 use Rattle.std.specs.List.{AllByRecursion}
 use Rattle.std.proofs.lemmas.Bool.{cond_both, false≢true}
+use Rattle.std.proofs.lemmas.Bool.Decides.{nat_tests}
 use Rattle.queue.specs.declared.waiting.Waiting.{Waiting}
 use Rattle.queue.specs.declared.released.Released.{Released}
 use Rattle.queue.specs.Order.{insert_sorted}
@@ -17,7 +18,7 @@ use Rattle.machine.proofs.Moves.{with_open, pop_shape, release_shape, push_shape
 use Rattle.machine.proofs.Parts.{Picks, Parts, made, selected_keeps, selected_settled, advanced_gives}
 use Rattle.machine.proofs.Cases.{fresh, granted}
 use Rattle.machine.proofs.Shaped.{still_settled}
-use Rattle.machine.proofs.Law.{Law, job_due}
+use Rattle.machine.proofs.Law.{Law}
 use Rattle.machine.proofs.Lawful.{blocked, pop_law, push_law, enter_law, leave_law, release_law}
 
 -- the longest stay of each open section fits its length
@@ -57,7 +58,7 @@ module _ (k : Table) (ok : Fit k) (S : ℕ → ℕ) (ran : ℕ → ℕ → ℕ) 
   top_done c w r q qs law due =
       elim (law c (omega arith)) [
         | inl z ↦ absurd (omega (arith, z.1.0))
-        | inr b ↦ omega (arith, b.room, job_due k ran c q due)
+        | inr b ↦ grind (arith, nat_tests, b.1.room)
       ]
 
   no_lapse : (c : ℕ) (w : List Waiting) (e : Released) (es : List Released) (s : List Job) → Shape k c w (e ∷ es) s → Law k ran st c w (e ∷ es) s → e.deadline ≤ c → ⊥
@@ -65,7 +66,7 @@ module _ (k : Table) (ok : Fit k) (S : ℕ → ℕ) (ran : ℕ → ℕ → ℕ) 
       let n = (known k c w (e ∷ es) s i).1.0 in
       elim (law c (omega arith)) [
         | inl z ↦ omega (arith, z.0.0)
-        | inr b ↦ omega (arith, b.room, dem_some k ok c e.task e.deadline n due, ok.c_pos e.task n)
+        | inr b ↦ omega (arith, b.1.room, dem_some k ok c e.task e.deadline n due, ok.c_pos e.task n)
       ]
 
   sure_picks : Picks k (Sure k S ran st)
