@@ -1,43 +1,24 @@
 -- An advance that is not refused goes no further than what is due.
-use Rattle.std.proofs.Common.{◌≡◌, ℕ, ◌<◌, ◌≤◌, min, Bool, true, false, cond, ltb, List, [], ◌∷◌, Some, None, Option, refl, arith}
+use Rattle.std.proofs.Common.{◌≡◌, ℕ, ◌<◌, ◌≤◌, List, [], ◌∷◌, Some, None, Option, refl, arith}
 use Rattle.std.specs.List.{AllByRecursion}
-use Rattle.std.proofs.lemmas.Bool.{cond-false, ltb-false}
+use Rattle.std.proofs.lemmas.Bool.Decides.{nat_tests}
 use Rattle.queue.specs.declared.waiting.Waiting.{Waiting}
 use Rattle.queue.specs.declared.released.Released.{Released}
-use Rattle.machine.specs.declared.call.Refusal.{Refusal}
-use Rattle.machine.specs.declared.call.Refusal.TheVariants.{Past, Far, BeyondDue}
 use Rattle.machine.specs.State.{Table, Job, State, sooner, top_deadline, first_deadline, first_release, due}
-use Rattle.machine.specs.Step.{beyond, not_advanced, last_instant}
+use Rattle.machine.specs.Step.{beyond, not_advanced}
 use Rattle.machine.proofs.Lists.{Sorted, Rising, all_map}
 use Rattle.machine.proofs.Shape.{Shape}
 
-some_none : {X : Type 0} (x : X) → Some x ≡ None → ⊥
-some_none x e = let z : ◌≡◌ {A = ℕ} 0 1 = cc in omega arith
-
-cond_none : {X : Type 0} (b : Bool) (x : X) (o : Option X) → cond b (Some x) o ≡ None → (b ≡ false) × (o ≡ None)
-cond_none true x o e = absurd (some_none x e)
-cond_none false x o e = (refl, e)
-
 upto : (t d : ℕ) → beyond t (Some d) ≡ None → t ≤ d
-upto t d e = ltb-false d t (cond_none (ltb d t) d None e).0
-
-upto_none : (t d : ℕ) → t ≤ d → beyond t (Some d) ≡ None
-upto_none t d h = cond-false (ltb d t) (Some d) None (Rattle.std.proofs.lemmas.Bool.le-ltb d t h)
+upto t d e = grind (arith, nat_tests)
 
 upto_both : (t : ℕ) (a b : Option ℕ) → beyond t (sooner a b) ≡ None → (beyond t a ≡ None) × (beyond t b ≡ None)
 upto_both t None b e = (refl, e)
 upto_both t (Some x) None e = (e, refl)
-upto_both t (Some x) (Some y) e = let le = upto t (min x y) e in (upto_none t x (omega arith), upto_none t y (omega arith))
-
-due_refusal : (o : Option ℕ) → ◌≡◌ {A = Option Refusal} (elim o [ None ↦ None | Some d ↦ Some (BeyondDue d) ]) None → o ≡ None
-due_refusal None e = refl
-due_refusal (Some d) e = absurd (some_none (BeyondDue d) e)
+upto_both t (Some x) (Some y) e = (grind (arith, nat_tests), grind (arith, nat_tests))
 
 pub accepted : (t : ℕ) (s : State) → not_advanced t s ≡ None → (s.clock ≤ t) × (beyond t (due s) ≡ None)
-accepted t s e =
-    let a = cond_none (ltb t s.clock) Past _ e in
-    let b = cond_none (ltb last_instant t) Far _ a.1 in
-    (ltb-false _ _ a.0, due_refusal (beyond t (due s)) b.1)
+accepted t s e = (grind (arith, nat_tests), grind (arith, nat_tests))
 
 -- where the first of a sorted list is not before t, nothing in it is
 from_first : {X : Type 0} (f : X → ℕ) (t : ℕ) (x : X) (xs : List X) → AllByRecursion (λ y. f x ≤ f y) xs → beyond t (Some (f x)) ≡ None → AllByRecursion (λ y. t ≤ f y) (x ∷ xs)

@@ -1,19 +1,19 @@
 -- Each part of a call keeps the law.
-use Rattle.std.proofs.Common.{◌≡◌, ℕ, ◌+◌, ◌-◌, ◌<◌, ◌≤◌, true, ltb, ◌⊎◌, List, [], ◌∷◌, length, ap, inl, inr, arith}
+use Rattle.std.proofs.Common.{◌≡◌, ℕ, ◌+◌, ◌-◌, ◌<◌, ◌≤◌, true, ◌⊎◌, List, [], ◌∷◌, length, ap, inl, inr, arith}
 use Rattle.std.specs.List.{AllByRecursion}
-use Rattle.std.proofs.lemmas.Bool.{lt-ltb, ltb-false, cases_lt, and_cases, both_ways, true≢false}
+use Rattle.std.proofs.lemmas.Bool.{cases_lt, true≢false}
 use Rattle.std.proofs.lemmas.Bool.Decides.{nat_tests}
 use Rattle.queue.specs.declared.waiting.Waiting.{Waiting}
 use Rattle.queue.specs.declared.released.Released.{Released}
 use Rattle.queue.specs.Order.{insert_sorted}
 use Rattle.queue.specs.Entries.{waiting_before, released_before}
 use Rattle.admission.specs.Demand.{demand, demand_of, reaches}
-use Rattle.machine.specs.State.{task_at, Table, Open, Job, relative, period, cost, section_at, inherited, first_releases}
+use Rattle.machine.specs.State.{task_at, Table, Open, Job, relative, period, cost, section_at, first_releases}
 use Rattle.machine.specs.Step.{goes, put_back, release_of}
 use Rattle.machine.proofs.Lists.{tot, Sorted, Rising, tot_insert, tot_le, all_insert, all_map, all_map2}
 use Rattle.machine.proofs.Tables.{Fit, demand_is}
 use Rattle.machine.proofs.Demand.{dem, dem_none, dem_some, dem_from}
-use Rattle.machine.proofs.Shape.{EntryOk, JobOk, Inward, Shape, Settled, known}
+use Rattle.machine.proofs.Shape.{EntryOk, JobOk, Inward, Shape, Settled, held_back, known}
 use Rattle.machine.proofs.Moves.{next_of, begin, with_open, above_all}
 use Rattle.machine.proofs.Law.{low, left_in, left_past, of_waiting, of_released, of_job, Quiet, Busy, Law, low_from, left_tick, past_less, jobs_less, left_closed, left_bound}
 
@@ -43,12 +43,8 @@ module _ (k : Table) (ok : Fit k) where
         )
         | inr due ↦
             let lt : e.deadline < q.deadline = omega arith in
+            let no' = held_back k e q qs st lt in
             let own = en.0.own in
-            let no' : inherited k q ≤ e.relative =
-            elim (and_cases (ltb e.deadline q.deadline) (ltb e.relative (inherited k q)) st) [
-              | inl f ↦ absurd (both_ways _ f (lt-ltb _ _ lt))
-              | inr f ↦ ltb-false e.relative (inherited k q) f
-            ] in
             inr (low_from k (relative k q.task) (relative k e.task) (d - from) q.opened (omega arith) (inw.0 lt) (omega (arith, af.0 due)))
       ]
 

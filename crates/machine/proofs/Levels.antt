@@ -1,25 +1,27 @@
 -- A section's level is at most the D of every task that names one of its resources.
-use Rattle.std.proofs.Common.{◌≡◌, ℕ, zero, suc, ◌+◌, ◌<◌, ◌≤◌, min, true, cond, leb, List, [], ◌∷◌, map, length, get_or, Some, None, Option, refl, ap, ◌∙◌, inl, inr, arith}
+use Rattle.std.proofs.Common.{◌≡◌, ℕ, zero, suc, ◌+◌, ◌<◌, ◌≤◌, true, cond, List, [], ◌∷◌, map, length, get_or, Some, None, Option, refl, ap, ◌∙◌, inl, inr, arith}
 use Rattle.std.specs.List.{AllByRecursion, range_with_len}
-use Rattle.std.proofs.lemmas.Bool.{and_parts, leb-true, le-leb, eqb-true, false≢true, cond-true, cases_lt}
+use Rattle.std.proofs.lemmas.Bool.{and_parts, le-leb, eqb-true, cond-true, cases_lt}
+use Rattle.std.proofs.lemmas.Bool.Decides.{nat_tests}
 use Rattle.std.proofs.ByRecursion.{All-get_or}
 use Rattle.table.specs.declared.records.TaskRecord.{TaskRecord}
 use Rattle.table.specs.declared.records.SectionRecord.{SectionRecord}
 use Rattle.table.specs.Level.{names, deadline_of, lesser, letter_level, letter_levels, least_level, section_level}
 use Rattle.admission.specs.Demand.{reaches}
-use Rattle.admission.specs.Sound.{sound, same_level, level_sound, levels_sound, tasks_sound}
+use Rattle.admission.specs.Sound.{sound, same_level, level_sound, levels_sound}
 use Rattle.machine.specs.State.{Table, relative, section_at}
 use Rattle.machine.proofs.Tables.{deadline_at_lem}
 
+-- the lesser of two levels is at most each of them
 lesser_left : (a b : Option ℕ) (n : ℕ) → reaches a n ≡ true → reaches (lesser a b) n ≡ true
-lesser_left None b n e = absurd (false≢true e)
+lesser_left None b n e = grind arith
 lesser_left (Some x) None n e = e
-lesser_left (Some x) (Some y) n e = le-leb (min x y) n (omega (arith, leb-true x n e))
+lesser_left (Some x) (Some y) n e = grind (arith, nat_tests)
 
 lesser_right : (a b : Option ℕ) (n : ℕ) → reaches b n ≡ true → reaches (lesser a b) n ≡ true
 lesser_right None b n e = e
-lesser_right (Some x) None n e = absurd (false≢true e)
-lesser_right (Some x) (Some y) n e = le-leb (min x y) n (omega (arith, leb-true y n e))
+lesser_right (Some x) None n e = grind arith
+lesser_right (Some x) (Some y) n e = grind (arith, nat_tests)
 
 -- a resource's level is at most the D of a task that names it
 letter_low :
@@ -53,8 +55,8 @@ section_low ts ss s r n h na e = least_low (letter_level ts ss) s r n 26 0 (omeg
 -- each section of sound records holds its level
 same_level_lem : (a b : Option ℕ) → same_level a b ≡ true → a ≡ b
 same_level_lem None None e = refl
-same_level_lem None (Some y) e = absurd (false≢true e)
-same_level_lem (Some x) None e = absurd (false≢true e)
+same_level_lem None (Some y) e = grind arith
+same_level_lem (Some x) None e = grind arith
 same_level_lem (Some x) (Some y) e = ap Some (eqb-true x y e)
 
 all_levels : (ts : List TaskRecord) (all ss : List SectionRecord) → levels_sound ts all ss ≡ true → AllByRecursion (λ s. s.level ≡ section_level ts all s) ss
@@ -65,11 +67,7 @@ all_levels ts all (s ∷ ss) e =
 
 levels_of : (ts : List TaskRecord) (ss : List SectionRecord) → sound ts ss ≡ true → levels_sound ts ss ss ≡ true
 unfolding sound
-levels_of ts ss e =
-    let a = and_parts (leb 1 (length ts)) _ e in
-    let b = and_parts (leb (length ts) 32) _ a.1 in
-    let c = and_parts (leb (length ss) 64) _ b.1 in
-    (and_parts (tasks_sound 0 0 ts ss) _ c.1).1
+levels_of ts ss e = grind arith
 
 -- the level of section x is at most the D of the task of section y, where both name a resource
 pub level_low : (k : Table) → sound k.tasks k.sections ≡ true → (x y r : ℕ) → x < length k.sections → y < length k.sections

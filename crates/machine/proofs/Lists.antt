@@ -17,19 +17,11 @@ tot_insert f b x (y ∷ ys) =
 
 pub tot_le : {X : Type 0} (f g : X → ℕ) (xs : List X) → AllByRecursion (λ x. f x ≤ g x) xs → tot f xs ≤ tot g xs
 tot_le f g [] h = omega arith
-tot_le f g (x ∷ xs) h = let ih = tot_le f g xs h.1 in omega arith
-
-pub tot_none : {X : Type 0} (f : X → ℕ) (xs : List X) → AllByRecursion (λ x. f x ≡ 0) xs → tot f xs ≡ 0
-tot_none f [] a = refl
-tot_none f (x ∷ xs) a = let ih = tot_none f xs a.1 in omega arith
+tot_le f g (x ∷ xs) h = omega (arith, tot_le f g xs h.1)
 
 pub none_tot : {X : Type 0} (f : X → ℕ) (xs : List X) → tot f xs ≡ 0 → AllByRecursion (λ x. f x ≡ 0) xs
 none_tot f [] e = tt
 none_tot f (x ∷ xs) e = (omega arith, none_tot f xs (omega arith))
-
-pub tot_le2 : {X : Type 0} (f e g h : X → ℕ) (xs : List X) → AllByRecursion (λ x. f x + e x ≤ g x + h x) xs → tot f xs + tot e xs ≤ tot g xs + tot h xs
-tot_le2 f e g h [] a = omega arith
-tot_le2 f e g h (x ∷ xs) a = let ih = tot_le2 f e g h xs a.1 in omega arith
 
 pub all_insert : {X : Type 0} (P : X → Type 0) (b : X → X → Bool) (x : X) (xs : List X) → P x → AllByRecursion P xs → AllByRecursion P (insert_sorted b x xs)
 all_insert P b x [] p h = (p, tt)
@@ -44,10 +36,6 @@ pub all_map2 : {X : Type 0} (P Q R : X → Type 0) → ((x : X) → P x → Q x 
 all_map2 P Q R f [] h g = tt
 all_map2 P Q R f (x ∷ xs) h g = (f x h.0 g.0, all_map2 P Q R f xs h.1 g.1)
 
-pub all_every : {X : Type 0} (P : X → Type 0) → ((x : X) → P x) → (xs : List X) → AllByRecursion P xs
-all_every P f [] = tt
-all_every P f (x ∷ xs) = (f x, all_every P f xs)
-
 abbrev pub Sorted : {X : Type 0} → (X → ℕ) → List X → Type 0
 Sorted f [] = Unit {0}
 Sorted f (x ∷ xs) = AllByRecursion (λ y. f x ≤ f y) xs × Sorted f xs
@@ -60,15 +48,10 @@ Rising f (x ∷ xs) = AllByRecursion (λ y. f x < f y) xs × Rising f xs
 abbrev pub By : {X : Type 0} → (X → X → Bool) → (X → ℕ) → Type 0
 By {X} b f = (x y : X) → ((b x y ≡ true) × (f x ≤ f y)) ⊎ ((b x y ≡ false) × (f y ≤ f x))
 
-pub by_true : {X : Type 0} (b : X → X → Bool) (f : X → ℕ) → By b f → (x y : X) → b x y ≡ true → f x ≤ f y
-by_true b f h x y e = let c = h x y in grind arith
-
-pub by_false : {X : Type 0} (b : X → X → Bool) (f : X → ℕ) → By b f → (x y : X) → b x y ≡ false → f y ≤ f x
-by_false b f h x y e = let c = h x y in grind arith
-
 pub sorted_insert : {X : Type 0} (b : X → X → Bool) (f : X → ℕ) → By b f → (x : X) (xs : List X) → Sorted f xs → Sorted f (insert_sorted b x xs)
 sorted_insert b f h x [] s = (tt, tt)
 sorted_insert b f h x (y ∷ ys) s =
+    let c = h x y in
     cond_both (b x y) (x ∷ y ∷ ys) (y ∷ insert_sorted b x ys) (Sorted f)
-    (λ e. let le = by_true b f h x y e in ((le, all_map (λ z. f y ≤ f z) (λ z. f x ≤ f z) (λ z g. omega arith) ys s.0), s))
-    (λ e. (all_insert (λ z. f y ≤ f z) b x ys (by_false b f h x y e) s.0, sorted_insert b f h x ys s.1))
+    (λ e. let le : f x ≤ f y = grind arith in ((le, all_map (λ z. f y ≤ f z) (λ z. f x ≤ f z) (λ z g. omega arith) ys s.0), s))
+    (λ e. let le : f y ≤ f x = grind arith in (all_insert (λ z. f y ≤ f z) b x ys le s.0, sorted_insert b f h x ys s.1))

@@ -1,7 +1,8 @@
 -- The order of the stack, and who owns what, of every state that a run reaches.
-use Rattle.std.proofs.Common.{◌≡◌, ℕ, zero, suc, ◌<◌, ◌≤◌, true, ltb, List, [], ◌∷◌, map, length, get_or, Some, None, Option, refl, inl, inr, arith}
+use Rattle.std.proofs.Common.{◌≡◌, ℕ, zero, suc, ◌<◌, ◌≤◌, true, List, [], ◌∷◌, map, length, get_or, Some, None, Option, refl, inl, inr, arith}
 use Rattle.std.specs.List.{AllByRecursion}
-use Rattle.std.proofs.lemmas.Bool.{and_cases, both_ways, lt-ltb, ltb-false, leb-true, eq-eqb, or_left, or_right, false≢true}
+use Rattle.std.proofs.lemmas.Bool.{eq-eqb, or_left, or_right}
+use Rattle.std.proofs.lemmas.Bool.Decides.{nat_tests}
 use Rattle.std.proofs.lemmas.List.{length-map}
 use Rattle.table.specs.declared.records.TaskRecord.{TaskRecord}
 use Rattle.table.specs.Level.{names}
@@ -17,7 +18,7 @@ use Rattle.machine.proofs.Lists.{Rising, all_map, all_map2}
 use Rattle.machine.proofs.Tables.{Fit, fit_if_admitted}
 use Rattle.machine.proofs.Levels.{level_low}
 use Rattle.machine.proofs.Different.{rising_among}
-use Rattle.machine.proofs.Shape.{Shape, Settled, Nested, JobOk, lowered_le, or_lower_le, known}
+use Rattle.machine.proofs.Shape.{Shape, Settled, Nested, JobOk, lowered_le, or_lower_le, held_back, known}
 use Rattle.machine.proofs.Shaped.{Shaped, reached_shaped}
 
 abbrev Mine : Table → ℕ → Open → Type 0
@@ -25,8 +26,8 @@ Mine k i o = (o.section < length k.sections) × ((section_at k o.section).task �
 
 -- a level that is at most n lowers what is inherited to at most n
 lower_reach : (m n : ℕ) (o : Option ℕ) → reaches o n ≡ true → or_lower m o ≤ n
-lower_reach m n None e = absurd (false≢true e)
-lower_reach m n (Some l) e = omega (arith, leb-true l n e)
+lower_reach m n None e = grind arith
+lower_reach m n (Some l) e = grind (arith, nat_tests)
 
 module _ (k : Table) where
   pub stacked_from : (s : List Job) → Rising (λ q. q.deadline) s → Nested k s → Stacked k s
@@ -85,9 +86,7 @@ module _ (k : Table) where
   held_from c w (e ∷ es) [] i st = tt
   held_from c w (e ∷ es) (j ∷ js) i st = λ lt.
       let own = i.readies.0.own in
-      let no : inherited k j ≤ e.relative =
-      elim (and_cases (ltb e.deadline j.deadline) (ltb e.relative (inherited k j)) st)
-      [ inl f ↦ absurd (both_ways _ f (lt-ltb _ _ lt)) | inr f ↦ ltb-false e.relative (inherited k j) f ] in
+      let no' = held_back k e j js st lt in
       let in' : relative k e.task < relative k j.task = i.inward.0.0 lt in
       (omega arith, all_map (λ l. relative k j.task < inherited k l) (λ l. relative k e.task < inherited k l) (λ l h. omega arith) js i.nested.0)
 

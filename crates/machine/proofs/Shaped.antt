@@ -1,7 +1,7 @@
 -- Every call keeps the shape and leaves the state settled, so every state that a run reaches has both.
-use Rattle.std.proofs.Common.{◌≡◌, ℕ, zero, suc, ◌+◌, ◌≤◌, ltb, List, [], ◌∷◌, length, None, refl, inl, inr, arith}
+use Rattle.std.proofs.Common.{◌≡◌, ℕ, zero, suc, ◌+◌, ◌≤◌, List, [], ◌∷◌, length, None, refl, arith}
 use Rattle.std.specs.List.{AllByRecursion}
-use Rattle.std.proofs.lemmas.Bool.{and_cases, and_left, and_right, le-ltb, ltb-false}
+use Rattle.std.proofs.lemmas.Bool.Decides.{nat_tests}
 use Rattle.queue.specs.declared.waiting.Waiting.{Waiting}
 use Rattle.queue.specs.declared.released.Released.{Released}
 use Rattle.machine.specs.declared.call.Call.{Call}
@@ -24,13 +24,7 @@ pub record Shaped (k : Table) (s : State) : Type 0 where
 -- a section more keeps a state settled
 pub still_settled : (k : Table) (r : List Released) (q : Job) (qs : List Job) (x n : ℕ) → Settled k r (q ∷ qs) → Settled k r (with_open q (fresh x n ∷ q.opened) ∷ qs)
 still_settled k [] q qs x n st = tt
-still_settled k (e ∷ es) q qs x n st =
-    let more : Job = with_open q (fresh x n ∷ q.opened) in
-    elim (and_cases (ltb e.deadline q.deadline) (ltb e.relative (inherited k q)) st) [
-      | inl f ↦ and_left (ltb e.deadline q.deadline) (ltb e.relative (inherited k more)) f
-      | inr f ↦ and_right (ltb e.deadline q.deadline) (ltb e.relative (inherited k more))
-          (le-ltb e.relative (inherited k more) (omega (arith, ltb-false e.relative (inherited k q) f, or_lower_le (inherited k q) (section_at k x).level)))
-    ]
+still_settled k (e ∷ es) q qs x n st = let le = or_lower_le (inherited k q) (section_at k x).level in grind (arith, nat_tests)
 
 module _ (k : Table) (ok : Fit k) where
   selected_shaped : (s : State) → Shape k s.clock s.waiting s.released s.stack → Shaped k (selected k s)
