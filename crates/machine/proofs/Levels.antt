@@ -3,7 +3,7 @@ use Rattle.std.proofs.Common.{◌≡◌, ℕ, zero, suc, ◌+◌, ◌<◌, ◌�
 use Rattle.std.specs.List.{AllByRecursion, range_with_len}
 use Rattle.std.proofs.lemmas.Bool.{and_parts, le-leb, eqb-true, cond-true, cases_lt}
 use Rattle.std.proofs.lemmas.Bool.Decides.{nat_tests}
-use Rattle.std.proofs.ByRecursion.{All-get_or}
+use Rattle.std.proofs.lemmas.List.Elements.{All-from_recursion}
 use Rattle.table.specs.declared.records.TaskRecord.{TaskRecord}
 use Rattle.table.specs.declared.records.SectionRecord.{SectionRecord}
 use Rattle.table.specs.Level.{names, deadline_of, lesser, letter_level, letter_levels, least_level, section_level}
@@ -76,6 +76,6 @@ pub level_low : (k : Table) → sound k.tasks k.sections ≡ true → (x y r : �
 level_low k ok x y r hx hy own hr nx ny =
     let n = relative k (section_at k y).task in
     let is : (section_at k x).level ≡ section_level k.tasks k.sections (section_at k x) =
-    All-get_or (λ s. s.level ≡ section_level k.tasks k.sections s) k.sections x _ hx (all_levels k.tasks k.sections k.sections (levels_of k.tasks k.sections ok)) in
+    All-from_recursion (λ s. s.level ≡ section_level k.tasks k.sections s) k.sections (all_levels k.tasks k.sections k.sections (levels_of k.tasks k.sections ok)) x _ hx in
     ap (λ o. reaches o n) is ∙ section_low k.tasks k.sections (section_at k x) r n hr nx
     (letter_low k.tasks r n _ k.sections y hy ny (deadline_at_lem k (section_at k y).task own))
