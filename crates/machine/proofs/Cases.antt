@@ -1,6 +1,7 @@
 -- What holds of every call, by cases: the call is refused, or an advance, an entry, a leave or a finish that is not.
-use Rattle.std.proofs.Common.{◌≡◌, ℕ, ◌<◌, true, cond, ◌&&◌, eqb, ltb, List, [], ◌∷◌, length, Some, None, refl}
-use Rattle.std.proofs.lemmas.Bool.{cond_both, eqb-true, ltb-true, and_parts, false≢true}
+use Rattle.std.proofs.Common.{◌≡◌, ℕ, ◌<◌, true, cond, ◌&&◌, eqb, ltb, List, [], ◌∷◌, length, Some, None, refl, arith}
+use Rattle.std.proofs.lemmas.Bool.{cond_both, and_parts, false≢true}
+use Rattle.std.proofs.lemmas.Bool.Decides.{nat_tests}
 use Rattle.queue.specs.declared.waiting.Waiting.{Waiting}
 use Rattle.queue.specs.declared.released.Released.{Released}
 use Rattle.machine.specs.declared.call.Ticket.{Ticket}
@@ -53,10 +54,10 @@ module _ (k : Table) (P : State → Call → Outcome → Type 0) (a : Cases k P)
       let old : State = made c w r (q ∷ qs) n in
       cond_both (enterable k x q) (cond (ltb n.entries most_entries) (granted c w r q qs n x) (refused old TooManyEntries)) (refused old NotEnterable) (P old (Enter x))
       (λ y.
-      let p = and_parts (ltb x (length k.sections)) _ y in
-      let o = and_parts (eqb (section_at k x).task q.task) _ p.1 in
+      let lt : x < length k.sections = grind (arith, nat_tests) in
+      let own : (section_at k x).task ≡ q.task = grind (arith, nat_tests) in
       cond_both (ltb n.entries most_entries) (granted c w r q qs n x) (refused old TooManyEntries) (P old (Enter x))
-      (λ _. a.enter c w r q qs n x (ltb-true _ _ p.0) (eqb-true _ _ o.0)) (λ _. a.refuse old (Enter x) TooManyEntries))
+      (λ _. a.enter c w r q qs n x lt own) (λ _. a.refuse old (Enter x) TooManyEntries))
       (λ _. a.refuse old (Enter x) NotEnterable)
 
   innermost_case : (g : Ticket) (c : ℕ) (w : List Waiting) (r : List Released) (q : Job) (os : List Open) (qs : List Job) (n : Counts) → is_innermost g os ≡ true

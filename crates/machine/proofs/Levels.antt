@@ -1,7 +1,7 @@
 -- A section's level is at most the D of every task that names one of its resources.
-use Rattle.std.proofs.Common.{◌≡◌, ℕ, zero, suc, ◌+◌, ◌<◌, ◌≤◌, true, cond, List, [], ◌∷◌, map, length, get_or, Some, None, Option, refl, ap, ◌∙◌, inl, inr, arith}
+use Rattle.std.proofs.Common.{◌≡◌, ℕ, zero, suc, ◌+◌, ◌<◌, ◌≤◌, true, if◌then◌else◌, List, [], ◌∷◌, map, length, get_or, Some, None, Option, refl, ap, ◌∙◌, inl, inr, arith}
 use Rattle.std.specs.List.{AllByRecursion, range_with_len}
-use Rattle.std.proofs.lemmas.Bool.{and_parts, le-leb, eqb-true, cond-true, cases_lt}
+use Rattle.std.proofs.lemmas.Bool.{and_parts, cases_lt}
 use Rattle.std.proofs.lemmas.Bool.Decides.{nat_tests}
 use Rattle.std.proofs.lemmas.List.Elements.{All-from_recursion}
 use Rattle.table.specs.declared.records.TaskRecord.{TaskRecord}
@@ -29,10 +29,9 @@ letter_low :
     → deadline_of ts (get_or ss y d).task ≡ Some n → reaches (letter_level ts ss r) n ≡ true
 letter_low ts r n d [] y h na e = absurd (omega arith)
 letter_low ts r n d (s ∷ ss) zero h na e =
-    lesser_left (cond (names s r) (deadline_of ts s.task) None) (letter_level ts ss r) n
-    (ap (λ o. reaches o n) (cond-true (names s r) (deadline_of ts s.task) None na ∙ e) ∙ le-leb n n (omega arith))
+    lesser_left (if names s r then deadline_of ts s.task else None) (letter_level ts ss r) n (grind (arith, nat_tests))
 letter_low ts r n d (s ∷ ss) (suc y) h na e =
-    lesser_right (cond (names s r) (deadline_of ts s.task) None) (letter_level ts ss r) n (letter_low ts r n d ss y (omega arith) na e)
+    lesser_right (if names s r then deadline_of ts s.task else None) (letter_level ts ss r) n (letter_low ts r n d ss y (omega arith) na e)
 
 -- the least level of the resources that a section names is at most that of each of them
 least_low :
@@ -41,11 +40,12 @@ least_low :
 least_low f s r n zero a h g na e = absurd (omega arith)
 least_low f s r n (suc m) a h g na e =
     elim (cases_lt a r) [
-      | inl lt ↦ lesser_right (cond (names s a) (f a) None) (least_level (map f (range_with_len (a + 1) m)) (a + 1) s) n (least_low f s r n m (a + 1) (omega arith) (omega arith) na e)
+      | inl lt ↦ lesser_right (if names s a then f a else None) (least_level (map f (range_with_len (a + 1) m)) (a + 1) s) n (least_low f s r n m (a + 1) (omega arith) (omega arith) na e)
       | inr ge ↦
           let same : r ≡ a = omega arith in
-          lesser_left (cond (names s a) (f a) None) (least_level (map f (range_with_len (a + 1) m)) (a + 1) s) n
-          (ap (λ o. reaches o n) (cond-true (names s a) (f a) None (rw same at na)) ∙ rw same at e)
+          let na' = rw same at na in
+          let e' = rw same at e in
+          lesser_left (if names s a then f a else None) (least_level (map f (range_with_len (a + 1) m)) (a + 1) s) n (grind arith)
     ]
 
 section_low : (ts : List TaskRecord) (ss : List SectionRecord) (s : SectionRecord) (r n : ℕ) → r < 26 → names s r ≡ true → reaches (letter_level ts ss r) n ≡ true → reaches (section_level ts ss s) n ≡ true
@@ -57,7 +57,7 @@ same_level_lem : (a b : Option ℕ) → same_level a b ≡ true → a ≡ b
 same_level_lem None None e = refl
 same_level_lem None (Some y) e = grind arith
 same_level_lem (Some x) None e = grind arith
-same_level_lem (Some x) (Some y) e = ap Some (eqb-true x y e)
+same_level_lem (Some x) (Some y) e = grind (arith, nat_tests)
 
 all_levels : (ts : List TaskRecord) (all ss : List SectionRecord) → levels_sound ts all ss ≡ true → AllByRecursion (λ s. s.level ≡ section_level ts all s) ss
 all_levels ts all [] e = tt

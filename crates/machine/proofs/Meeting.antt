@@ -1,7 +1,7 @@
 -- The run in which a job is blocked and another expires after just its C: it is computed, and what is said of every job or of every
 -- event is said of the few that occur.
 use Rattle.std.proofs.Common.{◌≡◌, ℕ, zero, suc, ◌+◌, ◌≤◌, Bool, true, false, cond, not, ◌&&◌, ◌||◌, eqb, ltb, ◌⊎◌, List, [], ◌∷◌, Ok, sym, refl, subst, inl, inr, arith, lit<, lit≤}
-use Rattle.std.proofs.lemmas.Bool.{cases_lt, or_cases, not-true, ltb-false, eqb-true, eqb-false}
+use Rattle.std.proofs.lemmas.Bool.{cases_lt, not-true, ltb-false, eqb-true}
 use Rattle.std.proofs.lemmas.Bool.{agree_below, agree_below_at}
 use Rattle.std.proofs.lemmas.Bool.Decides.{nat_tests}
 use Rattle.std.specs.List.{AllByRecursion}
@@ -43,10 +43,7 @@ admitted = record {
     positive = lit≤ tt;
     idle = refl;
     least = λ u p is. elim (cases_lt u 10) [
-      | inl lt ↦ elim (or_cases (eqb u 0) (not (eqb (workload tight_table.tasks u) u)) (agree_below_at busy (λ _. true) 10 u all_busy lt)) [
-        | inl z ↦ absurd (omega (arith, eqb-true u 0 z))
-        | inr b ↦ absurd (eqb-false (workload tight_table.tasks u) u (not-true (eqb (workload tight_table.tasks u) u) b) is)
-      ]
+      | inl lt ↦ (let b = agree_below_at busy (λ _. true) 10 u all_busy lt in grind (arith, nat_tests))
       | inr ge ↦ ge
     ];
   };

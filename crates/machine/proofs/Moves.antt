@@ -1,7 +1,7 @@
 -- Each part of a call keeps the shape.
-use Rattle.std.proofs.Common.{◌≡◌, ℕ, ◌+◌, ◌-◌, ◌<◌, ◌≤◌, true, ltb, List, [], ◌∷◌, length, arith}
+use Rattle.std.proofs.Common.{◌≡◌, ℕ, ◌+◌, ◌-◌, ◌<◌, ◌≤◌, true, List, [], ◌∷◌, length, arith}
 use Rattle.std.specs.List.{AllByRecursion}
-use Rattle.std.proofs.lemmas.Bool.{ltb-true, and_parts}
+use Rattle.std.proofs.lemmas.Bool.Decides.{nat_tests}
 use Rattle.queue.specs.declared.waiting.Waiting.{Waiting}
 use Rattle.queue.specs.declared.released.Released.{Released}
 use Rattle.queue.specs.Order.{insert_sorted}
@@ -77,13 +77,13 @@ module _ (k : Table) (ok : Fit k) where
   pub above_all : (s : List Job) (e : Released) → goes k e s ≡ true → Rising (λ q. q.deadline) s → AllByRecursion (λ q. e.deadline < q.deadline) s
   above_all [] e g ri = tt
   above_all (q ∷ qs) e g ri =
-      let lt : e.deadline < q.deadline = ltb-true _ _ (and_parts _ _ g).0 in
+      let lt : e.deadline < q.deadline = grind (arith, nat_tests) in
       (lt, all_map (λ p. q.deadline < p.deadline) (λ p. e.deadline < p.deadline) (λ p x. omega arith) qs ri.0)
 
   inside_all : (s : List Job) (e : Released) → e.relative ≡ relative k e.task → goes k e s ≡ true → Nested k s → AllByRecursion (λ l. relative k e.task < inherited k l) s
   inside_all [] e own g ne = tt
   inside_all (q ∷ qs) e own g ne =
-      let lt : e.relative < inherited k q = ltb-true e.relative (inherited k q) (and_parts (ltb e.deadline q.deadline) _ g).1 in
+      let lt : e.relative < inherited k q = grind (arith, nat_tests) in
       let le = lowered_le k (relative k q.task) q.opened in
       (omega arith, all_map (λ l. relative k q.task < inherited k l) (λ l. relative k e.task < inherited k l) (λ l x. omega arith) qs ne.0)
 

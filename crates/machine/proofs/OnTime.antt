@@ -1,7 +1,7 @@
 -- Where every job and every stay keeps its bound, each job that expires has run its whole time.
-use Rattle.std.proofs.Common.{◌≡◌, ℕ, ◌+◌, ◌-◌, ◌≤◌, true, cond, eqb, List, [], ◌∷◌, None, refl, ap, subst, inl, inr, arith}
+use Rattle.std.proofs.Common.{◌≡◌, ℕ, ◌+◌, ◌-◌, ◌≤◌, true, cond, List, [], ◌∷◌, None, refl, ap, subst, inl, inr, arith}
 use Rattle.std.specs.List.{AllByRecursion}
-use Rattle.std.proofs.lemmas.Bool.{cond-true, and_from, eq-eqb, or_left, or_right}
+use Rattle.std.proofs.lemmas.Bool.Decides.{nat_tests}
 use Rattle.admission.specs.Verdict.{Admitted}
 use Rattle.machine.specs.declared.call.Call.{Call}
 use Rattle.machine.specs.declared.call.Call.TheVariants.{Advance, Enter, Leave, Finish}
@@ -36,7 +36,7 @@ record Stepped (k : Table) (S : ℕ → ℕ) (ran : ℕ → ℕ → ℕ) (st : �
 -- the entries that a job has open are among those that it has open
 holds_all : (all os : List Open) → ((n : ℕ) → holds n os ≡ true → holds n all ≡ true) → AllByRecursion (λ o. holds o.serial all ≡ true) os
 holds_all all [] f = tt
-holds_all all (o ∷ os) f = (f o.serial (or_left _ _ (eq-eqb o.serial o.serial refl)), holds_all all os (λ n h. f n (or_right (eqb o.serial n) _ h)))
+holds_all all (o ∷ os) f = (f o.serial (grind (arith, nat_tests)), holds_all all os (λ n h. f n (grind arith)))
 
 module _ (k : Table) (ok : Fit k) (all : List Event) where
   -- how long each stay is in the end
@@ -48,10 +48,10 @@ module _ (k : Table) (ok : Fit k) (all : List Event) where
       → ((i d : ℕ) → ran_on ran js m i d ≤ cost k i) → ((n : ℕ) → stayed_on st js m n ≤ S n) → Top k m ran (ran_on ran js m) st (stayed_on st js m) js
   top_ticks m ran st [] caps cr cs = tt
   top_ticks m ran st (q ∷ qs) caps cr cs = record {
-    top = ap (λ n. ran q.task q.deadline + n) (cond-true (runs q.task q.deadline (q ∷ qs)) m 0 (and_from _ _ (eq-eqb q.task q.task refl) (eq-eqb q.deadline q.deadline refl)));
+    top = grind (arith, nat_tests);
     cap = cr q.task q.deadline;
     stays = all_map (λ o. holds o.serial q.opened ≡ true) (λ o. stayed_on st (q ∷ qs) m o.serial ≡ st o.serial + m)
-        (λ o h. ap (λ n. st o.serial + n) (cond-true (holds o.serial q.opened) m 0 h)) q.opened (holds_all q.opened q.opened (λ n h. h));
+        (λ o h. grind arith) q.opened (holds_all q.opened q.opened (λ n h. h));
     caps = all_map (λ o. S o.serial ≤ (section_at k o.section).length) (λ o. stayed_on st (q ∷ qs) m o.serial ≤ (section_at k o.section).length)
         (λ o h. omega (arith, h, cs o.serial)) q.opened caps.0;
   }

@@ -1,7 +1,6 @@
 -- The order of the stack, and who owns what, of every state that a run reaches.
-use Rattle.std.proofs.Common.{◌≡◌, ℕ, zero, suc, ◌<◌, ◌≤◌, true, List, [], ◌∷◌, length, get_or, Some, None, Option, refl, inl, inr, arith}
+use Rattle.std.proofs.Common.{◌≡◌, ℕ, zero, suc, ◌<◌, ◌≤◌, true, List, [], ◌∷◌, length, get_or, Some, None, Option, inl, inr, arith}
 use Rattle.std.specs.List.{AllByRecursion}
-use Rattle.std.proofs.lemmas.Bool.{eq-eqb, or_left, or_right}
 use Rattle.std.proofs.lemmas.Bool.Decides.{nat_tests}
 use Rattle.table.specs.declared.records.TaskRecord.{TaskRecord}
 use Rattle.table.specs.Level.{names}
@@ -54,8 +53,8 @@ module _ (k : Table) where
 
   deadlines_among : (ts : List TaskRecord) (i : ℕ) (t : TaskRecord) → i < length ts → among (get_or ts i t).deadline (deadlines ts) ≡ true
   deadlines_among [] i t h = absurd (omega arith)
-  deadlines_among (t ∷ ts) zero d h = or_left _ _ (eq-eqb t.deadline t.deadline refl)
-  deadlines_among (t ∷ ts) (suc i) d h = or_right _ _ (deadlines_among ts i d (omega arith))
+  deadlines_among (t ∷ ts) zero d h = grind (arith, nat_tests)
+  deadlines_among (t ∷ ts) (suc i) d h = let ih = deadlines_among ts i d (omega arith) in grind arith
 
   -- the D's of the stack rise
   nested_rising : (s : List Job) → Nested k s → Rising (λ q. relative k q.task) s

@@ -1,6 +1,7 @@
 -- What the parts of a call keep, they keep through the whole call. The parts: selection, expiry, lapse and release, for any statement about states.
-use Rattle.std.proofs.Common.{◌≡◌, ℕ, true, eqb, ltb, List, [], ◌∷◌, length, refl}
-use Rattle.std.proofs.lemmas.Bool.{cond_both, eqb-true, le-ltb, and_left}
+use Rattle.std.proofs.Common.{◌≡◌, ℕ, true, eqb, List, [], ◌∷◌, length, refl, arith}
+use Rattle.std.proofs.lemmas.Bool.{cond_both, eqb-true}
+use Rattle.std.proofs.lemmas.Bool.Decides.{nat_tests}
 use Rattle.queue.specs.declared.waiting.Waiting.{Waiting}
 use Rattle.queue.specs.declared.released.Released.{Released}
 use Rattle.queue.specs.Order.{insert_sorted}
@@ -31,7 +32,7 @@ module _ (k : Table) where
   -- after a push, what is released is less urgent
   next_settled : (e : Released) (es : List Released) (s : List Job) → Sorted (λ a. a.deadline) (e ∷ es) → Settled k es (begin e ∷ s)
   next_settled e [] s so = tt
-  next_settled e (z ∷ zs) s so = and_left (ltb z.deadline e.deadline) _ (le-ltb _ _ so.0.0)
+  next_settled e (z ∷ zs) s so = let le = so.0.0 in grind (arith, nat_tests)
 
   picked_settled : (c : ℕ) (w : List Waiting) (r : List Released) (s : List Job) (n : Counts) → Sorted (λ e. e.deadline) r
       → Settled k (picked k (made c w r s n) r).released (picked k (made c w r s n) r).stack

@@ -1,7 +1,8 @@
 -- What admission gives to the machine: the times of each task, the owner of each section, and that what is asked for fits at every instant.
 use Rattle.std.proofs.Common.{◌≡◌, ℕ, zero, suc, ◌+◌, ◌<◌, ◌≤◌, true, List, [], ◌∷◌, length, get_or, drop, Some, ap, ◌∙◌, inl, inr, arith}
 use Rattle.std.specs.Option.{option_map}
-use Rattle.std.proofs.lemmas.Bool.{and_from, lt-ltb, cases_lt}
+use Rattle.std.proofs.lemmas.Bool.{cases_lt}
+use Rattle.std.proofs.lemmas.Bool.Decides.{nat_tests}
 use Rattle.std.proofs.lemmas.List.Elements.{All-from_recursion}
 use Rattle.std.proofs.lemmas.Option.{slice_get-get_or, slice_get_past}
 use Rattle.std.proofs.lemmas.List.{drop_all}
@@ -67,7 +68,7 @@ fit_if_admitted k idle ad =
       fits = λ t h. omega (arith, ever t h);
       fits_held = λ t x h lt low far.
           let dl = deadline_at_lem k (section_at k x).task (known_owner k j x lt) in
-          let b : blocks k.tasks (section_at k x) t ≡ true = and_from _ _ low (rw dl (lt-ltb t _ far)) in
+          let b : blocks k.tasks (section_at k x) t ≡ true = grind (arith, nat_tests) in
           omega (arith, ever t h, blocking_least k.tasks t _ k.sections x lt b);
     }
 
