@@ -1,5 +1,5 @@
 -- The counts and balances of every run: counts are what the history tells, no job, section or task is lost, and no grant ends twice.
-use Rattle.std.proofs.Common.{◌≡◌, ℕ, zero, suc, ◌+◌, ◌<◌, ◌≤◌, Bool, true, cond, eqb, ltb, ◌⊎◌, List, [], ◌∷◌, length, refl, inl, inr, arith}
+use Rattle.std.proofs.Common.{◌≡◌, ℕ, zero, suc, ◌+◌, ◌<◌, ◌≤◌, Bool, true, ◌⊎◌, List, [], ◌∷◌, length, refl, inl, inr, arith, if◌then◌else◌, ◌==◌, nat_lt}
 use Rattle.std.proofs.lemmas.Bool.{cases_Bool, cases_eq}
 use Rattle.std.proofs.lemmas.Bool.Decides.{nat_tests}
 use Rattle.std.proofs.lemmas.List.Recursion.{same_from_clauses}
@@ -27,17 +27,17 @@ one_entry s c (Refused r) s' = omega arith
 
 -- whether a grant was made, whether it was made and is not open any more, and whether a call ends it
 abbrev used : ℕ → State → ℕ
-used n s = cond (ltb n s.counts.entries) 1 0
+used n s = if nat_lt n s.counts.entries then 1 else 0
 
 abbrev over : ℕ → State → ℕ
-over n s = cond (ltb n s.counts.entries) (cond (is_open n s.stack) 0 1) 0
+over n s = if nat_lt n s.counts.entries then (if is_open n s.stack then 0 else 1) else 0
 
 abbrev ends : ℕ → Event → ℕ
-ends n e = cond (is_open n e.before.stack) (cond (is_open n e.after.stack) 0 1) 0
+ends n e = if is_open n e.before.stack then (if is_open n e.after.stack then 0 else 1) else 0
 
 -- a grant that was made and is not open is never open again
 over_more : (n m m' : ℕ) (b b' : Bool) → m ≤ m' → (b ≡ true → n < m) → (b' ≡ true → (b ≡ true) ⊎ ((n ≡ m) × (m' ≡ m + 1)))
-    → cond (ltb n m) (cond b 0 1) 0 + cond b (cond b' 0 1) 0 ≤ cond (ltb n m') (cond b' 0 1) 0
+    → (if nat_lt n m then (if b then 0 else 1) else 0) + (if b then (if b' then 0 else 1) else 0) ≤ (if nat_lt n m' then (if b' then 0 else 1) else 0)
 over_more n m m' b b' up h opens = grind (arith, nat_tests)
 
 module _ (k : Table) where
@@ -90,15 +90,15 @@ module _ (k : Table) where
 
 -- places
 is : ℕ → ℕ → ℕ
-is i n = cond (eqb n i) 1 0
+is i n = if n == i then 1 else 0
 
-firsts : (i n j : ℕ) → tot (λ (a : Waiting). is i a.task) (first_releases j n) + cond (ltb i j) 1 0 ≡ cond (ltb i (j + n)) 1 0
+firsts : (i n j : ℕ) → tot (λ (a : Waiting). is i a.task) (first_releases j n) + (if nat_lt i j then 1 else 0) ≡ (if nat_lt i (j + n) then 1 else 0)
 unfolding is
 firsts i zero j = grind (arith, nat_tests)
 firsts i (suc n) j = let ih = firsts i n (j + 1) in grind (arith, nat_tests)
 
 -- each task stands in just one place, and no number that is no task's stands anywhere
-placed : (k : Table) (c : ℕ) (w : List Waiting) (r : List Released) (s : List Job) → Shape k c w r s → (i : ℕ) → waits i w + is_out i r + stands i s ≡ cond (ltb i (length k.tasks)) 1 0
+placed : (k : Table) (c : ℕ) (w : List Waiting) (r : List Released) (s : List Job) → Shape k c w r s → (i : ℕ) → waits i w + is_out i r + stands i s ≡ (if nat_lt i (length k.tasks) then 1 else 0)
 unfolding is
 placed k c w r s h i =
     grind (

@@ -1,5 +1,5 @@
 -- What holds of every call, by cases: the call is refused, or an advance, an entry, a leave or a finish that is not.
-use Rattle.std.proofs.Common.{◌≡◌, ℕ, ◌<◌, true, cond, ◌&&◌, eqb, ltb, List, [], ◌∷◌, length, Some, None, refl, arith}
+use Rattle.std.proofs.Common.{◌≡◌, ℕ, ◌<◌, true, ◌&&◌, List, [], ◌∷◌, length, Some, None, refl, arith, if◌then◌else◌, ◌==◌, nat_lt}
 use Rattle.std.proofs.lemmas.Bool.{cond_both, and_parts, false≢true}
 use Rattle.std.proofs.lemmas.Bool.Decides.{nat_tests}
 use Rattle.queue.specs.declared.waiting.Waiting.{Waiting}
@@ -52,11 +52,11 @@ module _ (k : Table) (P : State → Call → Outcome → Type 0) (a : Cases k P)
   enter_case x c w r [] n = a.refuse (made c w r [] n) (Enter x) NothingRuns
   enter_case x c w r (q ∷ qs) n =
       let old : State = made c w r (q ∷ qs) n in
-      cond_both (enterable k x q) (cond (ltb n.entries most_entries) (granted c w r q qs n x) (refused old TooManyEntries)) (refused old NotEnterable) (P old (Enter x))
+      cond_both (enterable k x q) (if nat_lt n.entries most_entries then granted c w r q qs n x else refused old TooManyEntries) (refused old NotEnterable) (P old (Enter x))
       (λ y.
       let lt : x < length k.sections = grind (arith, nat_tests) in
       let own : (section_at k x).task ≡ q.task = grind (arith, nat_tests) in
-      cond_both (ltb n.entries most_entries) (granted c w r q qs n x) (refused old TooManyEntries) (P old (Enter x))
+      cond_both (nat_lt n.entries most_entries) (granted c w r q qs n x) (refused old TooManyEntries) (P old (Enter x))
       (λ _. a.enter c w r q qs n x lt own) (λ _. a.refuse old (Enter x) TooManyEntries))
       (λ _. a.refuse old (Enter x) NotEnterable)
 
@@ -69,9 +69,9 @@ module _ (k : Table) (P : State → Call → Outcome → Type 0) (a : Cases k P)
   leave_case g c w r [] n = a.refuse (made c w r [] n) (Leave g) NotOpen
   leave_case g c w r (q ∷ qs) n =
       let old : State = made c w r (q ∷ qs) n in
-      cond_both (eqb q.task g.task && is_innermost g q.opened) (chosen k (made c w r (with_open q (closed q.opened) ∷ qs) (leaving n)))
-      (cond (grant_open g (q ∷ qs)) (refused old (NotInnermost g)) (refused old NotOpen)) (P old (Leave g))
-      (λ y. innermost_case g c w r q q.opened qs n (and_parts (eqb q.task g.task) _ y).1)
+      cond_both (q.task == g.task && is_innermost g q.opened) (chosen k (made c w r (with_open q (closed q.opened) ∷ qs) (leaving n)))
+      (if grant_open g (q ∷ qs) then refused old (NotInnermost g) else refused old NotOpen) (P old (Leave g))
+      (λ y. innermost_case g c w r q q.opened qs n (and_parts (q.task == g.task) _ y).1)
       (λ _. cond_both (grant_open g (q ∷ qs)) (refused old (NotInnermost g)) (refused old NotOpen) (P old (Leave g))
       (λ _. a.refuse old (Leave g) (NotInnermost g)) (λ _. a.refuse old (Leave g) NotOpen))
 

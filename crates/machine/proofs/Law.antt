@@ -1,5 +1,5 @@
 -- The law of an admitted run: up to each instant, what is still asked for fits, along with what is left of a blocking section.
-use Rattle.std.proofs.Common.{◌≡◌, ℕ, ◌+◌, ◌-◌, ◌<◌, ◌≤◌, Bool, true, false, cond, ◌||◌, ltb, leb, ◌⊎◌, List, [], ◌∷◌, Some, None, Option, refl, inl, inr, arith}
+use Rattle.std.proofs.Common.{◌≡◌, ℕ, ◌+◌, ◌-◌, ◌<◌, ◌≤◌, Bool, true, false, ◌||◌, ◌⊎◌, List, [], ◌∷◌, Some, None, Option, refl, inl, inr, arith, if◌then◌else◌, nat_lt, nat_le}
 use Rattle.std.specs.List.{AllByRecursion}
 use Rattle.std.proofs.lemmas.Bool.{le-leb, cases_lt, or_left, or_right, false≢true}
 use Rattle.std.proofs.lemmas.Bool.Decides.{nat_tests}
@@ -19,12 +19,12 @@ low k L (o ∷ os) = low k L os || reaches (section_at k o.section).level L
 abbrev pub left_in : Table → (ℕ → ℕ) → ℕ → List Open → ℕ
 left_in k st L [] = 0
 left_in k st L (o ∷ os) =
-    cond (low k L os) (left_in k st L os) (cond (reaches (section_at k o.section).level L) ((section_at k o.section).length - st o.serial) 0)
+    if low k L os then left_in k st L os else (if reaches (section_at k o.section).level L then (section_at k o.section).length - st o.serial else 0)
 
 -- of the topmost job with a deadline past d
 abbrev pub left_past : Table → (ℕ → ℕ) → ℕ → ℕ → List Job → ℕ
 left_past k st d L [] = 0
-left_past k st d L (q ∷ qs) = cond (ltb d q.deadline) (left_in k st L q.opened) (left_past k st d L qs)
+left_past k st d L (q ∷ qs) = if nat_lt d q.deadline then left_in k st L q.opened else left_past k st d L qs
 
 -- the demand up to d of a task that waits, that is released, and that is on the stack, by the run times of the jobs
 abbrev pub of_waiting : Table → ℕ → Waiting → ℕ
@@ -35,7 +35,7 @@ of_released k d e = dem k d e.task e.deadline
 
 abbrev pub of_job : Table → (ℕ → ℕ → ℕ) → ℕ → Job → ℕ
 of_job k ran d q =
-    cond (leb q.deadline d) (cost k q.task - ran q.task q.deadline) 0 + dem k d q.task (q.deadline + period k q.task)
+    (if nat_le q.deadline d then cost k q.task - ran q.task q.deadline else 0) + dem k d q.task (q.deadline + period k q.task)
 
 -- no pending job has a deadline up to d
 abbrev pub Quiet : ℕ → List Released → List Job → Type 0

@@ -1,6 +1,6 @@
 -- The run in which a job is blocked and another expires after just its C: it is computed, and what is said of every job or of every
 -- event is said of the few that occur.
-use Rattle.std.proofs.Common.{◌≡◌, ℕ, zero, suc, ◌+◌, ◌≤◌, Bool, true, false, cond, not, ◌&&◌, ◌||◌, eqb, ltb, ◌⊎◌, List, [], ◌∷◌, Ok, sym, refl, subst, inl, inr, arith, lit<, lit≤}
+use Rattle.std.proofs.Common.{◌≡◌, ℕ, zero, suc, ◌+◌, ◌≤◌, Bool, true, false, not, ◌&&◌, ◌||◌, ◌⊎◌, List, [], ◌∷◌, Ok, sym, refl, subst, inl, inr, arith, lit<, lit≤, if◌then◌else◌, ◌==◌, nat_lt}
 use Rattle.std.proofs.lemmas.Bool.{cases_lt, not-true, ltb-false, eqb-true}
 use Rattle.std.proofs.lemmas.Bool.{agree_below, agree_below_at}
 use Rattle.std.proofs.lemmas.Bool.Decides.{nat_tests}
@@ -20,10 +20,10 @@ abbrev all_below : (ℕ → Bool) → ℕ → Bool
 all_below p n = agree_below p (λ _. true) n
 
 abbrev fitting : ℕ → Bool
-fitting u = not (ltb u (asked tight_table.tasks tight_table.sections u))
+fitting u = not (nat_lt u (asked tight_table.tasks tight_table.sections u))
 
 abbrev busy : ℕ → Bool
-busy u = eqb u 0 || not (eqb (workload tight_table.tasks u) u)
+busy u = u == 0 || not (workload tight_table.tasks u == u)
 
 all_fit : all_below fitting 11 ≡ true
 unfolding letter_levels
@@ -77,8 +77,8 @@ expired = inr (inr (inr (inr (inr (inr (inr (inr (inr (inr (inr (inl (tt, inr (i
 -- a job's run time here, by which task and which deadline it has
 abbrev sum : Bool → Bool → Bool → Bool → Bool → Bool → ℕ
 sum a b c p q r =
-    0 + (cond (a && p) 2 0 + (cond (a && p) 0 0 + (cond (b && r) 2 0 + (cond (b && r) 0 0 + (cond (b && r) 1 0 + (cond (b && r) 1 0
-    + (cond (b && r) 0 0 + (cond (a && q) 2 0 + (cond (a && q) 0 0 + (cond (b && r) 0 0 + (cond (c && r) 2 0 + 0)))))))))))
+    0 + ((if a && p then 2 else 0) + ((if a && p then 0 else 0) + ((if b && r then 2 else 0) + ((if b && r then 0 else 0) + ((if b && r then 1 else 0) + ((if b && r then 1 else 0)
+    + ((if b && r then 0 else 0) + ((if a && q then 2 else 0) + ((if a && q then 0 else 0) + ((if b && r then 0 else 0) + ((if c && r then 2 else 0) + 0)))))))))))
 
 hi : (p q r : Bool) → (p ≡ true → q ≡ true → ⊥) → sum true false false p q r ≤ 2
 hi p q r apart = grind arith
@@ -89,14 +89,14 @@ lo p q r = grind arith
 third : (p q r : Bool) → sum false false true p q r ≤ 2
 third p q r = grind arith
 
-is_sum : (i d : ℕ) → run_time i d h ≡ sum (eqb 0 i) (eqb 1 i) (eqb 2 i) (eqb 4 d) (eqb 9 d) (eqb 10 d)
+is_sum : (i d : ℕ) → run_time i d h ≡ sum (0 == i) (1 == i) (2 == i) (4 == d) (9 == d) (10 == d)
 unfolding step selected advanced letter_levels
 is_sum i d = refl
 
-bound : (i d : ℕ) → sum (eqb 0 i) (eqb 1 i) (eqb 2 i) (eqb 4 d) (eqb 9 d) (eqb 10 d) ≤ cost tight_table i
-bound zero d = hi (eqb 4 d) (eqb 9 d) (eqb 10 d) (λ x y. omega (arith, eqb-true 4 d x, eqb-true 9 d y))
-bound (suc zero) d = lo (eqb 4 d) (eqb 9 d) (eqb 10 d)
-bound (suc (suc zero)) d = third (eqb 4 d) (eqb 9 d) (eqb 10 d)
+bound : (i d : ℕ) → sum (0 == i) (1 == i) (2 == i) (4 == d) (9 == d) (10 == d) ≤ cost tight_table i
+bound zero d = hi (4 == d) (9 == d) (10 == d) (λ x y. omega (arith, eqb-true 4 d x, eqb-true 9 d y))
+bound (suc zero) d = lo (4 == d) (9 == d) (10 == d)
+bound (suc (suc zero)) d = third (4 == d) (9 == d) (10 == d)
 bound (suc (suc (suc i))) d = grind (arith, nat_tests)
 
 jobs : (i d : ℕ) → run_time i d h ≤ cost tight_table i

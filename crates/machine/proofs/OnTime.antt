@@ -1,5 +1,5 @@
 -- Where every job and every stay keeps its bound, each job that expires has run its whole time.
-use Rattle.std.proofs.Common.{◌≡◌, ℕ, ◌+◌, ◌-◌, ◌≤◌, true, cond, List, [], ◌∷◌, None, refl, ap, subst, inl, inr, arith}
+use Rattle.std.proofs.Common.{◌≡◌, ℕ, ◌+◌, ◌-◌, ◌≤◌, true, List, [], ◌∷◌, None, refl, ap, subst, inl, inr, arith, if◌then◌else◌}
 use Rattle.std.specs.List.{AllByRecursion}
 use Rattle.std.proofs.lemmas.Bool.Decides.{nat_tests}
 use Rattle.admission.specs.Verdict.{Admitted}
@@ -23,10 +23,10 @@ use Rattle.machine.proofs.Expiry.{Caps, Sured, advanced_tracked, entered_sured, 
 
 -- the run times and stays after a call at whose start these jobs were on the stack
 abbrev ran_on : (ℕ → ℕ → ℕ) → List Job → ℕ → ℕ → ℕ → ℕ
-ran_on ran js m i d = ran i d + cond (runs i d js) m 0
+ran_on ran js m i d = ran i d + (if runs i d js then m else 0)
 
 abbrev stayed_on : (ℕ → ℕ) → List Job → ℕ → ℕ → ℕ
-stayed_on st js m n = st n + cond (stays_in n js) m 0
+stayed_on st js m n = st n + (if stays_in n js then m else 0)
 
 -- what a call leaves, and that the jobs that expired in it had run their whole time
 record Stepped (k : Table) (S : ℕ → ℕ) (ran : ℕ → ℕ → ℕ) (st : ℕ → ℕ) (s : State) (c : Call) (o : Outcome) : Type 0 where

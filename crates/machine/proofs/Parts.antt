@@ -1,5 +1,5 @@
 -- What the parts of a call keep, they keep through the whole call. The parts: selection, expiry, lapse and release, for any statement about states.
-use Rattle.std.proofs.Common.{◌≡◌, ℕ, true, eqb, List, [], ◌∷◌, length, refl, arith}
+use Rattle.std.proofs.Common.{◌≡◌, ℕ, true, List, [], ◌∷◌, length, refl, arith, ◌==◌}
 use Rattle.std.proofs.lemmas.Bool.{cond_both, eqb-true}
 use Rattle.std.proofs.lemmas.Bool.Decides.{nat_tests}
 use Rattle.queue.specs.declared.waiting.Waiting.{Waiting}
@@ -57,19 +57,19 @@ module _ (k : Table) where
       expired_keeps : (c : ℕ) (w : List Waiting) (r : List Released) (s : List Job) (n : Counts) → I (made c w r s n) → I (top_expired k t (made c w r s n) s)
       expired_keeps c w r [] n i = i
       expired_keeps c w r (q ∷ qs) n i =
-          cond_both (eqb q.deadline t) (made c (put_back k q.task q.deadline w) r qs (expiring 1 (length q.opened) n)) (made c w r (q ∷ qs) n) I
+          cond_both (q.deadline == t) (made c (put_back k q.task q.deadline w) r qs (expiring 1 (length q.opened) n)) (made c w r (q ∷ qs) n) I
           (λ y. a.pop c w r q qs n i (eqb-true _ _ y)) (λ _. i)
 
       lapsed_keeps : (c : ℕ) (r : List Released) (w : List Waiting) (s : List Job) (n : Counts) → I (made c w r s n) → I (lapsed k t (made c w r s n) r)
       lapsed_keeps c [] w s n i = i
       lapsed_keeps c (e ∷ es) w s n i =
-          cond_both (eqb e.deadline t) (lapsed k t (made c (put_back k e.task e.deadline w) es s (expiring 1 0 n)) es) (made c w (e ∷ es) s n) I
+          cond_both (e.deadline == t) (lapsed k t (made c (put_back k e.task e.deadline w) es s (expiring 1 0 n)) es) (made c w (e ∷ es) s n) I
           (λ y. lapsed_keeps c es (put_back k e.task e.deadline w) s (expiring 1 0 n) (a.lapse c w e es s n i (eqb-true _ _ y))) (λ _. i)
 
       released_keeps : (c : ℕ) (w : List Waiting) (r : List Released) (s : List Job) (n : Counts) → I (made c w r s n) → I (released_at k t (made c w r s n) w)
       released_keeps c [] r s n i = i
       released_keeps c (a₁ ∷ w) r s n i =
-          cond_both (eqb a₁.release t) (released_at k t (made c w (insert_sorted released_before (release_of k a₁) r) s (releasing n)) w) (made c (a₁ ∷ w) r s n) I
+          cond_both (a₁.release == t) (released_at k t (made c w (insert_sorted released_before (release_of k a₁) r) s (releasing n)) w) (made c (a₁ ∷ w) r s n) I
           (λ y. released_keeps c w (insert_sorted released_before (release_of k a₁) r) s (releasing n) (a.release c a₁ w r s n i (eqb-true _ _ y))) (λ _. i)
 
       -- what selection gives where the statement holds, an advance gives

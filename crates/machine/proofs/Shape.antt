@@ -1,5 +1,5 @@
 -- The shape of a state: what holds of clock, lists and stack whatever the jobs do with their time.
-use Rattle.std.proofs.Common.{◌≡◌, ℕ, zero, suc, ◌+◌, ◌<◌, ◌≤◌, false, cond, ltb, List, [], ◌∷◌, length, Some, None, Option, refl, arith}
+use Rattle.std.proofs.Common.{◌≡◌, ℕ, zero, suc, ◌+◌, ◌<◌, ◌≤◌, false, List, [], ◌∷◌, length, Some, None, Option, refl, arith, if◌then◌else◌, nat_lt}
 use Rattle.std.specs.List.{AllByRecursion}
 use Rattle.std.proofs.lemmas.Bool.Decides.{nat_tests}
 use Rattle.queue.specs.declared.waiting.Waiting.{Waiting}
@@ -68,7 +68,7 @@ held_back k e q qs st lt = grind (arith, nat_tests)
 module _ (k : Table) where
   -- each task in the lists is one of the table's: 1 for each number past them sums up to 0
   past : ℕ → ℕ
-  past i = cond (ltb i (length k.tasks)) 0 1
+  past i = if nat_lt i (length k.tasks) then 0 else 1
 
   within : (i : ℕ) → past i ≡ 0 → i < length k.tasks
   unfolding past

@@ -1,6 +1,6 @@
 -- The worked examples from text to verdict: each is computed. The walk over the instants has fuel for a million of them, so it is not
 -- computed as it stands: it is taken over the instants at which it does not stop, which a small test tells, to the one at which it does.
-use Rattle.std.proofs.Common.{◌≡◌, ℕ, zero, suc, ◌+◌, Bool, true, false, not, ◌&&◌, eqb, ltb, List, Ok, Err, Result, refl, ap, ◌∙◌, arith}
+use Rattle.std.proofs.Common.{◌≡◌, ℕ, zero, suc, ◌+◌, Bool, true, false, not, ◌&&◌, List, Ok, Err, Result, refl, ap, ◌∙◌, arith, ◌==◌, nat_lt}
 use Rattle.std.proofs.lemmas.Bool.{cond-true, and_parts}
 use Rattle.table.specs.declared.records.TaskRecord.{TaskRecord}
 use Rattle.table.specs.declared.records.SectionRecord.{SectionRecord}
@@ -26,7 +26,7 @@ onward (suc n) t = onward n (t + 1)
 module _ (tasks : List TaskRecord) (sections : List SectionRecord) where
   -- the walk does not stop at this instant, nor at so many from one on
   abbrev passes : ℕ → Bool
-  passes t = not (ltb t (asked tasks sections t)) && not (eqb (workload tasks t) t)
+  passes t = not (nat_lt t (asked tasks sections t)) && not (workload tasks t == t)
 
   abbrev quiet : ℕ → ℕ → Bool
   quiet zero t = true
@@ -49,10 +49,10 @@ module _ (tasks : List TaskRecord) (sections : List SectionRecord) where
       cond-true (sound tasks sections) (judged_from tasks sections horizon 1) (Err Records) is
       ∙ ap (λ m. judged_from tasks sections m 1) e ∙ many n (suc left) 1 q ∙ ap (judged_from tasks sections (suc left)) at ∙ last
 
-  idle_at : (n left t : ℕ) → horizon ≡ above n (suc left) → onward n 1 ≡ t → sound tasks sections ≡ true → quiet n 1 ≡ true → ltb t (asked tasks sections t) ≡ false → eqb (workload tasks t) t ≡ true → judged tasks sections ≡ Ok t
+  idle_at : (n left t : ℕ) → horizon ≡ above n (suc left) → onward n 1 ≡ t → sound tasks sections ≡ true → quiet n 1 ≡ true → nat_lt t (asked tasks sections t) ≡ false → (workload tasks t == t) ≡ true → judged tasks sections ≡ Ok t
   idle_at n left t e at is q fits idle = stops_at n left t (Ok t) e at is q (grind arith)
 
-  over_at : (n left t all : ℕ) → horizon ≡ above n (suc left) → onward n 1 ≡ t → sound tasks sections ≡ true → quiet n 1 ≡ true → ltb t (asked tasks sections t) ≡ true → asked tasks sections t ≡ all → judged tasks sections ≡ Err (Demand t all)
+  over_at : (n left t all : ℕ) → horizon ≡ above n (suc left) → onward n 1 ≡ t → sound tasks sections ≡ true → quiet n 1 ≡ true → nat_lt t (asked tasks sections t) ≡ true → asked tasks sections t ≡ all → judged tasks sections ≡ Err (Demand t all)
   over_at n left t all e at is q more so = stops_at n left t (Err (Demand t all)) e at is q (grind arith)
 
 pub verdicts : Verdicts
