@@ -1,7 +1,7 @@
 -- The run in which a job is blocked and another expires after just its C: it is computed, and what is said of every job or of every
 -- event is said of the few that occur.
-use Rattle.std.proofs.Common.{◌≡◌, ℕ, zero, suc, ◌+◌, ◌≤◌, Bool, true, false, not, ◌&&◌, ◌||◌, ◌⊎◌, List, [], ◌∷◌, Ok, sym, refl, subst, inl, inr, arith, lit<, lit≤, if◌then◌else◌, ◌==◌, nat_lt}
-use Rattle.std.proofs.lemmas.Bool.{cases_lt, not-true, ltb-false, eqb-true}
+use Rattle.std.proofs.Common.{◌≡◌, ℕ, zero, suc, ◌+◌, ◌≤◌, Bool, true, not, ◌&&◌, ◌||◌, ◌⊎◌, List, [], ◌∷◌, Ok, sym, refl, subst, inl, inr, arith, lit<, lit≤, if◌then◌else◌, ◌==◌, nat_lt}
+use Rattle.std.proofs.lemmas.Bool.{cases_lt, not-true, ltb-false}
 use Rattle.std.proofs.lemmas.Bool.{agree_below, agree_below_at}
 use Rattle.std.proofs.lemmas.Bool.Decides.{nat_tests}
 use Rattle.std.specs.List.{AllByRecursion}
@@ -80,23 +80,14 @@ sum a b c p q r =
     0 + ((if a && p then 2 else 0) + ((if a && p then 0 else 0) + ((if b && r then 2 else 0) + ((if b && r then 0 else 0) + ((if b && r then 1 else 0) + ((if b && r then 1 else 0)
     + ((if b && r then 0 else 0) + ((if a && q then 2 else 0) + ((if a && q then 0 else 0) + ((if b && r then 0 else 0) + ((if c && r then 2 else 0) + 0)))))))))))
 
-hi : (p q r : Bool) → (p ≡ true → q ≡ true → ⊥) → sum true false false p q r ≤ 2
-hi p q r apart = grind arith
-
-lo : (p q r : Bool) → sum false true false p q r ≤ 4
-lo p q r = grind arith
-
-third : (p q r : Bool) → sum false false true p q r ≤ 2
-third p q r = grind arith
-
 is_sum : (i d : ℕ) → run_time i d h ≡ sum (0 == i) (1 == i) (2 == i) (4 == d) (9 == d) (10 == d)
 unfolding step selected advanced letter_levels
 is_sum i d = refl
 
 bound : (i d : ℕ) → sum (0 == i) (1 == i) (2 == i) (4 == d) (9 == d) (10 == d) ≤ cost tight_table i
-bound zero d = hi (4 == d) (9 == d) (10 == d) (λ x y. omega (arith, eqb-true 4 d x, eqb-true 9 d y))
-bound (suc zero) d = lo (4 == d) (9 == d) (10 == d)
-bound (suc (suc zero)) d = third (4 == d) (9 == d) (10 == d)
+bound zero d = grind (arith, nat_tests)
+bound (suc zero) d = grind (arith, nat_tests)
+bound (suc (suc zero)) d = grind (arith, nat_tests)
 bound (suc (suc (suc i))) d = grind (arith, nat_tests)
 
 jobs : (i d : ℕ) → run_time i d h ≤ cost tight_table i
