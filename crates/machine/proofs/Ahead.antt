@@ -1,12 +1,12 @@
 -- An advance that is not refused goes no further than what is due.
-use Rattle.std.proofs.Common.{◌≡◌, ℕ, ◌<◌, ◌≤◌, List, [], ◌∷◌, Some, None, Option, refl, arith}
+use Rattle.std.proofs.Common.{◌≡◌, ℕ, ◌≤◌, List, [], ◌∷◌, Some, None, Option, refl, arith}
 use Rattle.std.specs.List.{AllByRecursion}
 use Rattle.std.proofs.lemmas.Bool.Decides.{nat_tests}
 use Rattle.queue.specs.declared.waiting.Waiting.{Waiting}
 use Rattle.queue.specs.declared.released.Released.{Released}
 use Rattle.machine.specs.State.{Table, Job, State, sooner, top_deadline, first_deadline, first_release, due}
 use Rattle.machine.specs.Step.{beyond, not_advanced}
-use Rattle.machine.proofs.Lists.{Sorted, Rising, all_map}
+use Rattle.machine.proofs.Lists.{Sorted, Rising, from_first, from_lowest}
 use Rattle.machine.proofs.Shape.{Shape}
 
 upto : (t d : ℕ) → beyond t (Some d) ≡ None → t ≤ d
@@ -20,21 +20,17 @@ upto_both t (Some x) (Some y) e = (grind (arith, nat_tests), grind (arith, nat_t
 pub accepted : (t : ℕ) (s : State) → not_advanced t s ≡ None → (s.clock ≤ t) × (beyond t (due s) ≡ None)
 accepted t s e = (grind (arith, nat_tests), grind (arith, nat_tests))
 
--- where the first of a sorted list is not before t, nothing in it is
-from_first : {X : Type 0} (f : X → ℕ) (t : ℕ) (x : X) (xs : List X) → AllByRecursion (λ y. f x ≤ f y) xs → beyond t (Some (f x)) ≡ None → AllByRecursion (λ y. t ≤ f y) (x ∷ xs)
-from_first f t x xs so e = let le = upto t (f x) e in (le, all_map (λ y. f x ≤ f y) (λ y. t ≤ f y) (λ y h. omega arith) xs so)
-
 first_waits : (t : ℕ) (w : List Waiting) → Sorted (λ a. a.release) w → beyond t (first_release w) ≡ None → AllByRecursion (λ a. t ≤ a.release) w
 first_waits t [] so e = tt
-first_waits t (a ∷ w) so e = from_first (λ z. z.release) t a w so.0 e
+first_waits t (a ∷ w) so e = from_first (λ z. z.release) t a w so (upto t a.release e)
 
 first_out : (t : ℕ) (r : List Released) → Sorted (λ e. e.deadline) r → beyond t (first_deadline r) ≡ None → AllByRecursion (λ e. t ≤ e.deadline) r
 first_out t [] so e = tt
-first_out t (a ∷ r) so e = from_first (λ z. z.deadline) t a r so.0 e
+first_out t (a ∷ r) so e = from_first (λ z. z.deadline) t a r so (upto t a.deadline e)
 
 first_stands : (t : ℕ) (s : List Job) → Rising (λ q. q.deadline) s → beyond t (top_deadline s) ≡ None → AllByRecursion (λ q. t ≤ q.deadline) s
 first_stands t [] ri e = tt
-first_stands t (q ∷ qs) ri e = from_first (λ z. z.deadline) t q qs (all_map (λ z. q.deadline < z.deadline) (λ z. q.deadline ≤ z.deadline) (λ z h. omega arith) qs ri.0) e
+first_stands t (q ∷ qs) ri e = from_lowest (λ z. z.deadline) t q qs ri (upto t q.deadline e)
 
 -- everything is due at t or later
 pub record Ahead (t : ℕ) (w : List Waiting) (r : List Released) (s : List Job) : Type 0 where

@@ -153,7 +153,7 @@ module _ (k : Table) (ok : Fit k) (S : ℕ → ℕ) (ran : ℕ → ℕ → ℕ) 
       selected_sured (made c (put_back k q.task q.deadline w) r qs (finishing n)) (record {
         shape = pop_shape k ok c w r none qs i.shape;
         law = pop_law k ok ran st c w r none qs i.shape (λ d far.
-            elim (blocked k ok c d 0 r none qs far h.settled i.shape.readies i.shape.by_deadline i.shape.rising i.shape.inward.0 (all_map (EntryOk k c) _ (λ e x due. omega (arith, x.base)) r i.shape.readies))
+            elim (blocked k ok c d 0 w r none qs i.shape h.settled far (all_map (EntryOk k c) _ (λ e x due. omega (arith, x.base)) r i.shape.readies))
             [ inl z ↦ inl z | inr lo ↦ absurd (false≢true lo) ]) i.law;
         caps = i.caps.1;
       })

@@ -1,5 +1,5 @@
 -- Each part of a call keeps the law.
-use Rattle.std.proofs.Common.{◌≡◌, ℕ, ◌+◌, ◌-◌, ◌<◌, ◌≤◌, true, ◌⊎◌, List, [], ◌∷◌, length, ap, inl, inr, arith}
+use Rattle.std.proofs.Common.{◌≡◌, ℕ, suc, ◌+◌, ◌-◌, ◌<◌, ◌≤◌, true, ◌⊎◌, List, [], ◌∷◌, length, ap, inl, inr, arith}
 use Rattle.std.specs.List.{AllByRecursion}
 use Rattle.std.proofs.lemmas.Bool.{cases_lt, true≢false}
 use Rattle.std.proofs.lemmas.Bool.Decides.{nat_tests}
@@ -10,11 +10,11 @@ use Rattle.queue.specs.Entries.{waiting_before, released_before}
 use Rattle.admission.specs.Demand.{demand, demand_of, reaches}
 use Rattle.machine.specs.State.{task_at, Table, Open, Job, relative, period, cost, section_at, first_releases}
 use Rattle.machine.specs.Step.{goes, put_back, release_of}
-use Rattle.machine.proofs.Lists.{tot, Sorted, Rising, tot_insert, tot_le, all_insert, all_map, all_map2}
+use Rattle.machine.proofs.Lists.{tot, tot_insert, tot_le, all_insert, all_map, all_map2, from_first, from_lowest}
 use Rattle.machine.proofs.Tables.{Fit, demand_is}
 use Rattle.machine.proofs.Demand.{dem, dem_none, dem_some, dem_from}
-use Rattle.machine.proofs.Shape.{EntryOk, JobOk, Inward, Shape, Settled, held_back, known}
-use Rattle.machine.proofs.Moves.{next_of, begin, with_open, above_all}
+use Rattle.machine.proofs.Shape.{JobOk, Shape, Settled, held_back, known}
+use Rattle.machine.proofs.Moves.{next_of, begin, with_open, push_shape}
 use Rattle.machine.proofs.Law.{low, left_in, left_past, of_waiting, of_released, of_job, Quiet, Busy, Law, low_from, left_tick, past_less, jobs_less, left_closed, left_bound}
 
 -- what an advance by δ adds to run times and stays, of the running job
@@ -30,22 +30,20 @@ Top k δ ran ran' st st' (q ∷ qs) = Ticks k δ ran ran' st st' q
 
 module _ (k : Table) (ok : Fit k) where
   -- a running job with a deadline past d, while a released one is due by d, is in a section with a low level
-  pub blocked : (c d from : ℕ) (r : List Released) (q : Job) (qs : List Job) → d < q.deadline → Settled k r (q ∷ qs)
-      → AllByRecursion (EntryOk k c) r → Sorted (λ e. e.deadline) r → Rising (λ p. p.deadline) (q ∷ qs) → Inward k r q
-      → AllByRecursion (λ e. e.deadline ≤ d → from + relative k e.task ≤ e.deadline) r
-      → Quiet d r (q ∷ qs) ⊎ (low k (d - from) q.opened ≡ true)
-  blocked c d from [] q qs h st en so ri inw af = inl (tt, (h, all_map (λ p. q.deadline < p.deadline) (λ p. d < p.deadline) (λ p g. omega arith) qs ri.0))
-  blocked c d from (e ∷ es) q qs h st en so ri inw af =
+  pub blocked : (c d from : ℕ) (w : List Waiting) (r : List Released) (q : Job) (qs : List Job) → Shape k c w r (q ∷ qs) → Settled k r (q ∷ qs) → d < q.deadline
+      → AllByRecursion (λ e. e.deadline ≤ d → from + relative k e.task ≤ e.deadline) r → Quiet d r (q ∷ qs) ⊎ (low k (d - from) q.opened ≡ true)
+  blocked c d from w [] q qs i st h af = inl (tt, from_lowest (λ p. p.deadline) (suc d) q qs i.rising h)
+  blocked c d from w (e ∷ es) q qs i st h af =
       elim (cases_lt d e.deadline) [
         | inl far ↦ inl (
-          (far, all_map (λ z. e.deadline ≤ z.deadline) (λ z. d < z.deadline) (λ z g. omega arith) es so.0),
-          (h, all_map (λ p. q.deadline < p.deadline) (λ p. d < p.deadline) (λ p g. omega arith) qs ri.0),
+          from_first (λ z. z.deadline) (suc d) e es i.by_deadline far,
+          from_lowest (λ p. p.deadline) (suc d) q qs i.rising h,
         )
         | inr due ↦
             let lt : e.deadline < q.deadline = omega arith in
             let no' = held_back k e q qs st lt in
-            let own = en.0.own in
-            inr (low_from k (relative k q.task) (relative k e.task) (d - from) q.opened (omega arith) (inw.0 lt) (omega (arith, af.0 due)))
+            let own = i.readies.0.own in
+            inr (low_from k (relative k q.task) (relative k e.task) (d - from) q.opened (omega arith) (i.inward.0.0 lt) (omega (arith, af.0 due)))
       ]
 
   idle_ready : (d : ℕ) (r : List Released) → Settled k r [] → AllByRecursion (λ e. d < e.deadline) r
@@ -62,7 +60,7 @@ module _ (k : Table) (ok : Fit k) where
       elim (law d (omega arith)) [
         | inl z ↦ inl z
         | inr (from, b) ↦ elim (cases_lt d q.deadline) [
-          | inl far ↦ elim (blocked c d from r q qs far se i.readies i.by_deadline i.rising i.inward.0 b.after) [
+          | inl far ↦ elim (blocked c d from w r q qs i se far b.after) [
             | inl z ↦ inl z
             | inr lo ↦ inr (from, search (arith, nat_tests, left_tick k st st' (t - c) (d - from) q.opened lo u.stays u.caps))
           ]
@@ -92,8 +90,8 @@ module _ (k : Table) (ok : Fit k) where
     push_law c w e es s i g law = λ d h.
         elim (cases_lt d e.deadline) [
           | inl far ↦ inl (
-            all_map (λ z. e.deadline ≤ z.deadline) (λ z. d < z.deadline) (λ z le. omega arith) es i.by_deadline.0,
-            (far, all_map (λ q. e.deadline < q.deadline) (λ q. d < q.deadline) (λ q lt. omega arith) s (above_all k ok s e g i.rising)),
+            (from_first (λ z. z.deadline) (suc d) e es i.by_deadline far).1,
+            from_lowest (λ p. p.deadline) (suc d) (begin e) s (push_shape k ok c w e es s i g).rising far,
           )
           | inr due ↦ elim (law d h) [
             | inl z ↦ absurd (omega (arith, z.0.0))
@@ -118,7 +116,7 @@ module _ (k : Table) (ok : Fit k) where
       pub enter_law : (o : Open) → Settled k r (q ∷ qs) → Law k ran st c w r (with_open q (o ∷ q.opened) ∷ qs)
       enter_law o se =
           reopened (o ∷ q.opened)
-          (λ d from far b. elim (blocked c d from r q qs far se i.readies i.by_deadline i.rising i.inward.0 b.after) [ inl z ↦ inl z | inr lo ↦ inr (rw lo (omega arith)) ])
+          (λ d from far b. elim (blocked c d from w r q qs i se far b.after) [ inl z ↦ inl z | inr lo ↦ inr (rw lo (omega arith)) ])
 
       pub leave_law : (o : Open) (os : List Open) → q.opened ≡ o ∷ os → Law k ran st c w r (with_open q os ∷ qs)
       leave_law o os e = reopened os (λ d from far b. inr (rw e (left_closed k st (d - from) o os)))

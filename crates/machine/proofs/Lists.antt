@@ -44,6 +44,13 @@ abbrev pub Rising : {X : Type 0} → (X → ℕ) → List X → Type 0
 Rising f [] = Unit {0}
 Rising f (x ∷ xs) = AllByRecursion (λ y. f x < f y) xs × Rising f xs
 
+-- what is at most the first of a sorted list, or of a rising one, is at most each
+pub from_first : {X : Type 0} (f : X → ℕ) (t : ℕ) (x : X) (xs : List X) → Sorted f (x ∷ xs) → t ≤ f x → AllByRecursion (λ y. t ≤ f y) (x ∷ xs)
+from_first f t x xs so le = (le, all_map (λ y. f x ≤ f y) (λ y. t ≤ f y) (λ y h. omega arith) xs so.0)
+
+pub from_lowest : {X : Type 0} (f : X → ℕ) (t : ℕ) (x : X) (xs : List X) → Rising f (x ∷ xs) → t ≤ f x → AllByRecursion (λ y. t ≤ f y) (x ∷ xs)
+from_lowest f t x xs ri le = (le, all_map (λ y. f x < f y) (λ y. t ≤ f y) (λ y h. omega arith) xs ri.0)
+
 -- b goes by f
 abbrev pub By : {X : Type 0} → (X → X → Bool) → (X → ℕ) → Type 0
 By {X} b f = (x y : X) → ((b x y ≡ true) × (f x ≤ f y)) ⊎ ((b x y ≡ false) × (f y ≤ f x))
@@ -53,5 +60,5 @@ sorted_insert b f h x [] s = (tt, tt)
 sorted_insert b f h x (y ∷ ys) s =
     let c = h x y in
     cond_both (b x y) (x ∷ y ∷ ys) (y ∷ insert_sorted b x ys) (Sorted f)
-    (λ e. let le : f x ≤ f y = grind arith in ((le, all_map (λ z. f y ≤ f z) (λ z. f x ≤ f z) (λ z g. omega arith) ys s.0), s))
+    (λ e. let le : f x ≤ f y = grind arith in (from_first f (f x) y ys s le, s))
     (λ e. let le : f y ≤ f x = grind arith in (all_insert (λ z. f y ≤ f z) b x ys le s.0, sorted_insert b f h x ys s.1))

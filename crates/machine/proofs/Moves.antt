@@ -1,5 +1,5 @@
 -- Each part of a call keeps the shape.
-use Rattle.std.proofs.Common.{◌≡◌, ℕ, ◌+◌, ◌-◌, ◌<◌, ◌≤◌, true, List, [], ◌∷◌, length, arith}
+use Rattle.std.proofs.Common.{◌≡◌, ℕ, suc, ◌+◌, ◌-◌, ◌<◌, ◌≤◌, true, List, [], ◌∷◌, length, arith}
 use Rattle.std.specs.List.{AllByRecursion}
 use Rattle.std.proofs.lemmas.Bool.Decides.{nat_tests}
 use Rattle.queue.specs.declared.waiting.Waiting.{Waiting}
@@ -8,7 +8,7 @@ use Rattle.queue.specs.Order.{insert_sorted}
 use Rattle.queue.specs.Entries.{waiting_before, released_before}
 use Rattle.machine.specs.State.{Table, Open, Job, relative, period, section_at, inherited}
 use Rattle.machine.specs.Step.{goes, put_back, release_of}
-use Rattle.machine.proofs.Lists.{Sorted, Rising, tot_insert, all_insert, all_map, all_map2, sorted_insert}
+use Rattle.machine.proofs.Lists.{Sorted, Rising, tot_insert, all_insert, all_map, all_map2, sorted_insert, from_lowest}
 use Rattle.machine.proofs.Tables.{Fit}
 use Rattle.machine.proofs.Shape.{EntryOk, JobOk, Nested, Inward, Once, Shape, known, by_waiting, by_released, lowered_le}
 
@@ -74,11 +74,11 @@ module _ (k : Table) (ok : Fit k) where
       search arith
 
   -- a pushed job is more urgent than all below it, and its D is below what each of them inherits
-  pub above_all : (s : List Job) (e : Released) → goes k e s ≡ true → Rising (λ q. q.deadline) s → AllByRecursion (λ q. e.deadline < q.deadline) s
+  above_all : (s : List Job) (e : Released) → goes k e s ≡ true → Rising (λ q. q.deadline) s → AllByRecursion (λ q. e.deadline < q.deadline) s
   above_all [] e g ri = tt
   above_all (q ∷ qs) e g ri =
       let lt : e.deadline < q.deadline = grind (arith, nat_tests) in
-      (lt, all_map (λ p. q.deadline < p.deadline) (λ p. e.deadline < p.deadline) (λ p x. omega arith) qs ri.0)
+      from_lowest (λ p. p.deadline) (suc e.deadline) q qs ri lt
 
   inside_all : (s : List Job) (e : Released) → e.relative ≡ relative k e.task → goes k e s ≡ true → Nested k s → AllByRecursion (λ l. relative k e.task < inherited k l) s
   inside_all [] e own g ne = tt
