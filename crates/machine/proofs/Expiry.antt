@@ -51,7 +51,7 @@ insert_keeps : (i d : ℕ) (b : Released → Released → Bool) (x : Released) (
 insert_keeps i d b x [] h = absurd h
 insert_keeps i d b x (y ∷ ys) h =
     cond_both (b x y) (x ∷ y ∷ ys) (y ∷ insert_sorted b x ys) (IsReleased i d) (λ _. inr h)
-    (λ _. elim h [ inl e ↦ inl e | inr m ↦ inr (insert_keeps i d b x ys m) ])
+    (λ _. grind (arith, insert_keeps i d b x ys))
 
 module _ (k : Table) (ok : Fit k) (S : ℕ → ℕ) (ran : ℕ → ℕ → ℕ) (st : ℕ → ℕ) where
   top_done : (c : ℕ) (w : List Waiting) (r : List Released) (q : Job) (qs : List Job) → Law k ran st c w r (q ∷ qs) → q.deadline ≤ c → cost k q.task ≤ ran q.task q.deadline
@@ -85,7 +85,7 @@ module _ (k : Table) (ok : Fit k) (S : ℕ → ℕ) (ran : ℕ → ℕ → ℕ) 
     tracked_picks c w e es s n i g = record {
       clock = i.clock;
       sure = sure_picks c w e es s n i.sure g;
-      tracked = λ n d p. elim (i.tracked n d p) [ inl (inl (inl m)) ↦ inl (inr (inl m)) | inl (inl (inr m)) ↦ inl (inl m) | inl (inr m) ↦ inl (inr (inr m)) | inr m ↦ inr m ];
+      tracked = λ n d p. let x = i.tracked n d p in grind arith;
     }
 
     tracked_parts : Parts k t (Tracked k S P ran st t)
@@ -99,8 +99,7 @@ module _ (k : Table) (ok : Fit k) (S : ℕ → ℕ) (ran : ℕ → ℕ → ℕ) 
               law = pop_law k ok ran st c w r q qs i.sure.shape (λ d far. inr (omega (arith, i.clock))) i.sure.law;
               caps = i.sure.caps.1;
             };
-            tracked = λ n d p. elim (i.tracked n d p)
-                [ inl (inl m) ↦ inl (inl m) | inl (inr (inl m)) ↦ inr (rw (← m.0, ← m.1) done) | inl (inr (inr m)) ↦ inl (inr m) | inr m ↦ inr m ];
+            tracked = λ n d p. let x = i.tracked n d p in grind arith;
           };
       lapse = λ c w e es s n i d. absurd (no_lapse c w e es s i.sure.shape i.sure.law (omega (arith, i.clock)));
       release = λ c a w r s n i e. record {
@@ -110,8 +109,7 @@ module _ (k : Table) (ok : Fit k) (S : ℕ → ℕ) (ran : ℕ → ℕ → ℕ) 
           law = release_law k ok ran st c a w r s i.sure.shape (omega (arith, i.clock)) i.sure.law;
           caps = i.sure.caps;
         };
-        tracked = λ n d p. elim (i.tracked n d p)
-            [ inl (inl m) ↦ inl (inl (insert_keeps n d released_before (release_of k a) r m)) | inl (inr m) ↦ inl (inr m) | inr m ↦ inr m ];
+        tracked = λ n d p. let x = i.tracked n d p in grind (arith, insert_keeps n d released_before (release_of k a) r);
       };
     }
 
