@@ -15,10 +15,10 @@ upto t d e = grind (arith, nat_tests)
 upto_both : (t : ℕ) (a b : Option ℕ) → beyond t (sooner a b) ≡ None → (beyond t a ≡ None) × (beyond t b ≡ None)
 upto_both t None b e = (refl, e)
 upto_both t (Some x) None e = (e, refl)
-upto_both t (Some x) (Some y) e = (grind (arith, nat_tests), grind (arith, nat_tests))
+upto_both t (Some x) (Some y) e = grind (arith, nat_tests)
 
 pub accepted : (t : ℕ) (s : State) → not_advanced t s ≡ None → (s.clock ≤ t) × (beyond t (due s) ≡ None)
-accepted t s e = (grind (arith, nat_tests), grind (arith, nat_tests))
+accepted t s e = grind (arith, nat_tests)
 
 first_waits : (t : ℕ) (w : List Waiting) → Sorted (λ a. a.release) w → beyond t (first_release w) ≡ None → AllByRecursion (λ a. t ≤ a.release) w
 first_waits t [] so e = tt

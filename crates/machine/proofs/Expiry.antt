@@ -1,7 +1,7 @@
 -- In an advance, a job that is taken away has run its whole time, and no released job is taken away.
 use Rattle.std.proofs.Common.{◌≡◌, ℕ, ◌<◌, ◌≤◌, Bool, ◌⊎◌, List, [], ◌∷◌, length, refl, inl, inr, arith}
 use Rattle.std.specs.List.{AllByRecursion}
-use Rattle.std.proofs.lemmas.Bool.{cond_both, false≢true}
+use Rattle.std.proofs.lemmas.Bool.{false≢true}
 use Rattle.std.proofs.lemmas.Bool.Decides.{nat_tests}
 use Rattle.queue.specs.declared.waiting.Waiting.{Waiting}
 use Rattle.queue.specs.declared.released.Released.{Released}
@@ -50,24 +50,17 @@ pub record Tracked (k : Table) (S : ℕ → ℕ) (P : ℕ → ℕ → Type 0) (r
 insert_keeps : (i d : ℕ) (b : Released → Released → Bool) (x : Released) (r : List Released) → IsReleased i d r → IsReleased i d (insert_sorted b x r)
 insert_keeps i d b x [] h = absurd h
 insert_keeps i d b x (y ∷ ys) h =
-    cond_both (b x y) (x ∷ y ∷ ys) (y ∷ insert_sorted b x ys) (IsReleased i d) (λ _. inr h)
-    (λ _. grind (arith, insert_keeps i d b x ys))
+    let ih = insert_keeps i d b x ys in grind arith
 
 module _ (k : Table) (ok : Fit k) (S : ℕ → ℕ) (ran : ℕ → ℕ → ℕ) (st : ℕ → ℕ) where
   top_done : (c : ℕ) (w : List Waiting) (r : List Released) (q : Job) (qs : List Job) → Law k ran st c w r (q ∷ qs) → q.deadline ≤ c → cost k q.task ≤ ran q.task q.deadline
   top_done c w r q qs law due =
-      elim (law c (omega arith)) [
-        | inl z ↦ absurd (omega (arith, z.1.0))
-        | inr b ↦ grind (arith, nat_tests, b.1.room)
-      ]
+      let l = law c (omega arith) in grind (arith, nat_tests)
 
   no_lapse : (c : ℕ) (w : List Waiting) (e : Released) (es : List Released) (s : List Job) → Shape k c w (e ∷ es) s → Law k ran st c w (e ∷ es) s → e.deadline ≤ c → ⊥
   no_lapse c w e es s i law due =
       let n = (known k c w (e ∷ es) s i).1.0 in
-      elim (law c (omega arith)) [
-        | inl z ↦ omega (arith, z.0.0)
-        | inr b ↦ omega (arith, b.1.room, dem_some k ok c e.task e.deadline n due, ok.c_pos e.task n)
-      ]
+      let l = law c (omega arith) in grind (arith, dem_some k ok c e.task e.deadline n due, ok.c_pos e.task n)
 
   sure_picks : Picks k (Sure k S ran st)
   sure_picks c w e es s n i g = record { shape = push_shape k ok c w e es s i.shape g; law = push_law k ok ran st c w e es s i.shape g i.law; caps = (tt, i.caps) }

@@ -1,6 +1,6 @@
 -- What an advance does to the counts: jobs and open sections go from one place to another, and none is lost.
-use Rattle.std.proofs.Common.{◌≡◌, ℕ, suc, ◌+◌, ◌≤◌, Bool, true, List, [], ◌∷◌, length, refl, ap, arith}
-use Rattle.std.proofs.lemmas.Bool.{cond_both, or_right}
+use Rattle.std.proofs.Common.{◌≡◌, ℕ, suc, ◌+◌, ◌≤◌, Bool, true, List, [], ◌∷◌, length, refl, arith}
+use Rattle.std.proofs.lemmas.Bool.{or_right}
 use Rattle.queue.specs.Order.{insert_sorted}
 use Rattle.queue.specs.Entries.{released_before}
 use Rattle.machine.specs.State.{Table, State}
@@ -24,7 +24,7 @@ pub record Flow (s s' : State) : Type 0 where
 pub length-insert : {X : Type 0} (b : X → X → Bool) (x : X) (xs : List X) → length (insert_sorted b x xs) ≡ suc (length xs)
 length-insert b x [] = refl
 length-insert b x (y ∷ ys) =
-    cond_both (b x y) (x ∷ y ∷ ys) (y ∷ insert_sorted b x ys) (λ zs. length zs ≡ suc (suc (length ys))) (λ _. refl) (λ _. ap suc (length-insert b x ys))
+    let ih = length-insert b x ys in grind arith
 
 module _ (k : Table) (s : State) where
   flow_picks : Picks k (Flow s)

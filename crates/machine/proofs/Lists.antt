@@ -12,8 +12,7 @@ tot f (x ∷ xs) = f x + tot f xs
 pub tot_insert : {X : Type 0} (f : X → ℕ) (b : X → X → Bool) (x : X) (xs : List X) → tot f (insert_sorted b x xs) ≡ f x + tot f xs
 tot_insert f b x [] = refl
 tot_insert f b x (y ∷ ys) =
-    let ih = tot_insert f b x ys in
-    cond_both (b x y) (x ∷ y ∷ ys) (y ∷ insert_sorted b x ys) (λ zs. tot f zs ≡ f x + (f y + tot f ys)) (λ _. refl) (λ _. omega arith)
+    let ih = tot_insert f b x ys in grind arith
 
 pub tot_le : {X : Type 0} (f g : X → ℕ) (xs : List X) → AllByRecursion (λ x. f x ≤ g x) xs → tot f xs ≤ tot g xs
 tot_le f g [] h = omega arith
@@ -26,7 +25,7 @@ none_tot f (x ∷ xs) e = (omega arith, none_tot f xs (omega arith))
 pub all_insert : {X : Type 0} (P : X → Type 0) (b : X → X → Bool) (x : X) (xs : List X) → P x → AllByRecursion P xs → AllByRecursion P (insert_sorted b x xs)
 all_insert P b x [] p h = (p, tt)
 all_insert P b x (y ∷ ys) p h =
-    cond_both (b x y) (x ∷ y ∷ ys) (y ∷ insert_sorted b x ys) (AllByRecursion P) (λ _. (p, h)) (λ _. (h.0, all_insert P b x ys p h.1))
+    let ih = all_insert P b x ys p h.1 in grind arith
 
 pub all_map : {X : Type 0} (P Q : X → Type 0) → ((x : X) → P x → Q x) → (xs : List X) → AllByRecursion P xs → AllByRecursion Q xs
 all_map P Q f [] h = tt

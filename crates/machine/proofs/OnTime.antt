@@ -79,7 +79,7 @@ module _ (k : Table) (ok : Fit k) (all : List Event) where
         (λ _ _. omega arith) (λ _. omega arith) tk i.shape h.settled i.law in
         let w = advanced_tracked k ok S (ran_on ran s.stack m) (stayed_on st s.stack m) (λ n x. Present n x s) t s
         (record { shape = sh; law = law; caps = i.caps }) (λ _ _ p. inl p) in
-        record { sured = w.sured; done = λ n x gone. elim (w.tracked n x gone.1) [ inl p ↦ absurd (gone.2 p) | inr le ↦ le ] }
+        record { sured = w.sured; done = λ n x gone. let p = w.tracked n x gone.1 in grind arith }
 
   -- what a call does where no job runs too long and no stay is too long
   abbrev Steps : (ℕ → ℕ → ℕ) → (ℕ → ℕ) → State → Call → Outcome → Type 0

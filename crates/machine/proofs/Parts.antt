@@ -38,7 +38,7 @@ module _ (k : Table) where
       → Settled k (picked k (made c w r s n) r).released (picked k (made c w r s n) r).stack
   picked_settled c w [] s n so = tt
   picked_settled c w (e ∷ es) s n so =
-      cond_both (goes k e s) (made c w es (begin e ∷ s) n) (made c w (e ∷ es) s n) (λ x. Settled k x.released x.stack) (λ _. next_settled e es s so) (λ no. no)
+      let le = next_settled e es s so in grind arith
 
   pub selected_settled : (s : State) → Sorted (λ e. e.deadline) s.released → Settled k (selected k s).released (selected k s).stack
   unfolding selected
