@@ -72,10 +72,7 @@ module _ (k : Table) where
   used_more n c s =
       let t = told k c s in
       let one = one_entry s c (step k c s).answer (step k c s).state in
-      elim (cases_eq n s.counts.entries) [
-        | inl e ↦ let z = (t.serials n).0 e in grind (arith, nat_tests, z, t.entries)
-        | inr apart ↦ let z = (t.serials n).1 apart in grind (arith, nat_tests, z, t.entries)
-      ]
+      grind (arith, nat_tests, t.serials n, t.entries)
 
   -- every open grant was made
   abbrev Made : State → Type 0

@@ -22,9 +22,8 @@ module _ (k : Table) (ok : Fit k) where
   unfolding dem
   dem_some d i dl n h =
       let a = ok.c_pos i n in let b = ok.c_d i n in let c = ok.d_t i n in
-      let x : ℕ = d - dl in
-      let u : d + period k i - dl ≡ x + period k i = omega arith in
-      let v : d + period k i - (dl + period k i) ≡ x = omega arith in
+      let u : d + period k i - dl ≡ d - dl + period k i = omega arith in
+      let v : d + period k i - (dl + period k i) ≡ d - dl = omega arith in
       let p : 0 < period k i = omega arith in
       rw (u, v, add-div_right) (omega arith)
 

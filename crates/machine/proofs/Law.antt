@@ -1,7 +1,7 @@
 -- The law of an admitted run: up to each instant, what is still asked for fits, along with what is left of a blocking section.
 use Rattle.std.proofs.Common.{◌≡◌, ℕ, ◌+◌, ◌-◌, ◌<◌, ◌≤◌, Bool, true, false, ◌||◌, ◌⊎◌, List, [], ◌∷◌, Some, None, Option, refl, inl, inr, arith, if◌then◌else◌, nat_lt, nat_le}
 use Rattle.std.specs.List.{AllByRecursion}
-use Rattle.std.proofs.lemmas.Bool.{le-leb, cases_lt, or_left, or_right, false≢true}
+use Rattle.std.proofs.lemmas.Bool.{false≢true}
 use Rattle.std.proofs.lemmas.Bool.Decides.{nat_tests}
 use Rattle.queue.specs.declared.waiting.Waiting.{Waiting}
 use Rattle.queue.specs.declared.released.Released.{Released}
@@ -53,14 +53,15 @@ Law k ran st c w r s = (d : ℕ) → c ≤ d → Quiet d r s ⊎ ((from : ℕ) �
 -- what inherits at most x without a D of at most x has a level of at most x open
 or_lower_cases : (n x L : ℕ) (o : Option ℕ) → or_lower n o ≤ x → x ≤ L → (n ≤ x) ⊎ (reaches o L ≡ true)
 or_lower_cases n x L None h le = inl h
-or_lower_cases n x L (Some l) h le = elim (cases_lt x l) [ inl lt ↦ inl (omega arith) | inr ge ↦ inr (le-leb l L (omega arith)) ]
+or_lower_cases n x L (Some l) h le = grind (arith, nat_tests)
 
 module _ (k : Table) where
   pub low_from : (m x L : ℕ) (os : List Open) → lowered k m os ≤ x → x < m → x ≤ L → low k L os ≡ true
   low_from m x L [] h g l = absurd (omega arith)
   low_from m x L (o ∷ os) h g l =
-      elim (or_lower_cases (lowered k m os) x L (section_at k o.section).level h l)
-      [ inl le ↦ or_left _ _ (low_from m x L os le g l) | inr e ↦ or_right (low k L os) _ e ]
+      let c = or_lower_cases (lowered k m os) x L (section_at k o.section).level h l in
+      let ih = λ (le : lowered k m os ≤ x). low_from m x L os le g l in
+      grind arith
 
   left_zero : (st : ℕ → ℕ) (L : ℕ) (os : List Open) → low k L os ≡ false → left_in k st L os ≡ 0
   left_zero st L [] h = refl

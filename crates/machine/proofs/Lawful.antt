@@ -41,9 +41,7 @@ module _ (k : Table) (ok : Fit k) where
         )
         | inr due ↦
             let lt : e.deadline < q.deadline = omega arith in
-            let no' = held_back k e q qs st lt in
-            let own = i.readies.0.own in
-            inr (low_from k (relative k q.task) (relative k e.task) (d - from) q.opened (omega arith) (i.inward.0.0 lt) (omega (arith, af.0 due)))
+            inr (low_from k (relative k q.task) (relative k e.task) (d - from) q.opened (omega (arith, held_back k e q qs st lt, i.readies.0.own)) (i.inward.0.0 lt) (omega (arith, af.0 due)))
       ]
 
   idle_ready : (d : ℕ) (r : List Released) → Settled k r [] → AllByRecursion (λ e. d < e.deadline) r

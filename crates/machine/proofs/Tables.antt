@@ -1,10 +1,9 @@
 -- What admission gives to the machine: the times of each task, the owner of each section, and that what is asked for fits at every instant.
-use Rattle.std.proofs.Common.{◌≡◌, ℕ, zero, suc, ◌+◌, ◌<◌, ◌≤◌, true, List, [], ◌∷◌, length, get_or, drop, Some, ap, ◌∙◌, inl, inr, arith}
+use Rattle.std.proofs.Common.{◌≡◌, ℕ, zero, suc, ◌+◌, ◌<◌, ◌≤◌, true, List, [], ◌∷◌, length, get_or, drop, Some, ap, ◌∙◌, arith}
 use Rattle.std.specs.Option.{option_map}
-use Rattle.std.proofs.lemmas.Bool.{cases_lt}
 use Rattle.std.proofs.lemmas.Bool.Decides.{nat_tests}
 use Rattle.std.proofs.lemmas.List.Elements.{All-from_recursion}
-use Rattle.std.proofs.lemmas.Option.{slice_get-get_or, slice_get_past}
+use Rattle.std.proofs.lemmas.Option.{slice_get-get_or, slice_get_within}
 use Rattle.std.proofs.lemmas.List.{drop_all}
 use Rattle.table.specs.declared.records.TaskRecord.{TaskRecord}
 use Rattle.table.specs.declared.records.SectionRecord.{SectionRecord}
@@ -45,12 +44,7 @@ module _ (k : Table) (j : Judgeable k.tasks k.sections) where
   owned_at x h = All-from_recursion (Owned k.tasks) k.sections j.owned x _ h
 
   known_owner : (x : ℕ) → x < length k.sections → (section_at k x).task < length k.tasks
-  known_owner x h =
-      let found = (owned_at x h).found in
-      elim (cases_lt (section_at k x).task (length k.tasks)) [
-        | inl lt ↦ lt
-        | inr ge ↦ (let past = slice_get_past k.tasks (section_at k x).task ge in grind arith)
-      ]
+  known_owner x h = slice_get_within k.tasks (section_at k x).task _ (owned_at x h).found
 
 -- the D of a task of the table, as levels have it
 pub deadline_at_lem : (k : Table) (i : ℕ) → i < length k.tasks → deadline_of k.tasks i ≡ Some (relative k i)

@@ -47,18 +47,12 @@ module _ (k : Table) where
   told_cases : Cases k (λ s c o. Told (event_of s c o))
   told_cases = record {
     refuse = told_refused;
-    advance = λ s t _. let f = flow_advanced k s t in search arith;
+    advance = λ s t _. search (arith, flow_advanced k s t);
     enter = λ c w r q qs n x _ _. search (arith, nat_tests);
     leave = λ c w r q o os qs n g.
-        let s : State = made c w r (with_open q os ∷ qs) (leaving n) in
-        let f = flow_selected k s in
-        let e = selected_counts s in
-        search (arith, or_right);
+        let s : State = made c w r (with_open q os ∷ qs) (leaving n) in search (arith, or_right, flow_selected k s, selected_counts s);
     finish = λ c w r q qs n.
-        let s : State = made c (put_back k q.task q.deadline w) r qs (finishing n) in
-        let f = flow_selected k s in
-        let e = selected_counts s in
-        search (arith, or_right);
+        let s : State = made c (put_back k q.task q.deadline w) r qs (finishing n) in search (arith, or_right, flow_selected k s, selected_counts s);
   }
 
   pub told : (c : Call) (s : State) → Told (event_of s c (step k c s))
