@@ -1,5 +1,5 @@
 -- What holds of every run of an admitted table, at the start and after each call.
-use Rattle.std.specs.Prelude.{◌≡◌, ℕ, ◌+◌, ◌-◌, ◌<◌, ◌≤◌, Bool, true, false, cond, ◌||◌, ◌⊎◌, List, [], ◌∷◌, length, ◌==◌}
+use Rattle.std.specs.Prelude.{◌≡◌, ℕ, ◌+◌, ◌-◌, ◌<◌, ◌≤◌, Bool, true, false, if◌then◌else◌, ◌||◌, ◌⊎◌, List, [], ◌∷◌, length, ◌==◌}
 use Rattle.std.specs.List.{AllByRecursion}
 use Rattle.table.specs.declared.records.TaskRecord.{TaskRecord}
 use Rattle.table.specs.Limits.{resources}
@@ -42,7 +42,7 @@ among x (y ∷ ys) = x == y || among x ys
 
 abbrev pub different : List ℕ → ℕ
 different [] = 0
-different (x ∷ xs) = cond (among x xs) (different xs) (1 + different xs)
+different (x ∷ xs) = if among x xs then different xs else 1 + different xs
 
 abbrev pub deadlines : List TaskRecord → List ℕ
 deadlines [] = []
@@ -58,15 +58,15 @@ Held k (e ∷ es) (j ∷ js) =
 -- how often a task stands in each of the three places
 abbrev pub waits : ℕ → List Waiting → ℕ
 waits i [] = 0
-waits i (w ∷ ws) = cond (w.task == i) 1 0 + waits i ws
+waits i (w ∷ ws) = (if w.task == i then 1 else 0) + waits i ws
 
 abbrev pub is_out : ℕ → List Released → ℕ
 is_out i [] = 0
-is_out i (e ∷ es) = cond (e.task == i) 1 0 + is_out i es
+is_out i (e ∷ es) = (if e.task == i then 1 else 0) + is_out i es
 
 abbrev pub stands : ℕ → List Job → ℕ
 stands i [] = 0
-stands i (j ∷ js) = cond (j.task == i) 1 0 + stands i js
+stands i (j ∷ js) = (if j.task == i then 1 else 0) + stands i js
 
 -- how many sections are open
 abbrev pub open_count : List Job → ℕ

@@ -1,6 +1,6 @@
 -- A run: any list of calls from the start, accepted or refused, and its history, what each call found, answered and left. Run times, stays,
 -- ended grants and expired jobs are read off the history; the machine keeps none of them. `Promise` goes on with what holds of every run.
-use Rattle.std.specs.Prelude.{◌≡◌, ℕ, ◌+◌, ◌-◌, ◌≤◌, Bool, false, cond, ◌&&◌, ◌||◌, ◌⊎◌, List, [], ◌∷◌, ◌==◌}
+use Rattle.std.specs.Prelude.{◌≡◌, ℕ, ◌+◌, ◌-◌, ◌≤◌, Bool, false, if◌then◌else◌, ◌&&◌, ◌||◌, ◌⊎◌, List, [], ◌∷◌, ◌==◌}
 use Rattle.queue.specs.declared.released.Released.{Released}
 use Rattle.machine.specs.declared.call.Call.{Call}
 use Rattle.machine.specs.declared.call.Answer.{Answer}
@@ -50,7 +50,7 @@ runs i d (j ∷ js) = j.task == i && j.deadline == d
 
 -- a job's run time: the clock's movement over the calls at whose start it ran
 abbrev pub run_time : ℕ → ℕ → List Event → ℕ
-run_time i d h = total (λ e. cond (runs i d e.before.stack) (moved e) 0) h
+run_time i d h = total (λ e. if runs i d e.before.stack then moved e else 0) h
 
 -- whether an entry is among open sections, by its serial
 abbrev pub holds : ℕ → List Open → Bool
@@ -64,7 +64,7 @@ stays_in n (j ∷ js) = holds n j.opened
 
 -- a stay: the clock's movement over the calls at whose start the job ran that had the entry open
 abbrev pub stay : ℕ → List Event → ℕ
-stay n h = total (λ e. cond (stays_in n e.before.stack) (moved e) 0) h
+stay n h = total (λ e. if stays_in n e.before.stack then moved e else 0) h
 
 -- whether an entry is open in any job
 abbrev pub is_open : ℕ → List Job → Bool
@@ -74,7 +74,7 @@ is_open n (j ∷ js) = holds n j.opened || is_open n js
 -- how often a grant with a serial was given
 abbrev pub gives : ℕ → Answer Refusal → ℕ
 gives n (Advanced (e, r, i)) = 0
-gives n (Granted g) = cond (g.serial == n) 1 0
+gives n (Granted g) = if g.serial == n then 1 else 0
 gives n (Running i) = 0
 gives n (Refused r) = 0
 
@@ -83,7 +83,7 @@ given n h = total (λ e. gives n e.answer) h
 
 -- how often the grant with a serial ended: it was open before a call and not after it
 abbrev pub ended : ℕ → List Event → ℕ
-ended n h = total (λ e. cond (is_open n e.before.stack) (cond (is_open n e.after.stack) 0 1) 0) h
+ended n h = total (λ e. if is_open n e.before.stack then (if is_open n e.after.stack then 0 else 1) else 0) h
 
 -- a job that is on the stack, and one that is released
 abbrev pub OnStack : ℕ → ℕ → List Job → Type 0
