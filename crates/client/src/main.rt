@@ -5,12 +5,11 @@
 #![tactic(auto)]
 
 ghost use Rattle.admission.specs.Passed.{Passed};
-ghost use Rattle.scheduler.specs.Fitted.{Fitted};
 
 use admission::admit::admit;
 use admission::pass::Pass;
 use queue::{HeapQueue, ListQueue, Queue, Released, Waiting};
-use scheduler::answer::Refusal;
+use scheduler::answer::{NOBODY, Refusal};
 use scheduler::grant::LeaveRefusal;
 use scheduler::run_core::Core;
 use std::io;
@@ -18,9 +17,6 @@ use std::mem::size_of;
 use table::limits::{MOST_SECTIONS, MOST_TASKS};
 use table::read::read;
 use table::records::{SectionRecord, TaskRecord};
-
-/// The number that stands for no task.
-const NOBODY: u32 = 32;
 
 /// Two tasks that share a resource.
 const TABLE: &[u8] = b"fast: D=4 T=10 C=2 1{ a }\nslow: D=20 T=20 C=8 2{ a }\n";
@@ -44,10 +40,7 @@ fn visit<W: Queue<Entry = Waiting>, R: Queue<Entry = Released>>(
     core: &mut Core<W, R>,
     section: usize,
     until: u64,
-) -> Result<u32, LeaveRefusal>
-    requires { Fitted W.Queue R.Queue core.old }
-    ensures { Fitted W.Queue R.Queue core.new }
-{
+) -> Result<u32, LeaveRefusal> {
     match core.enter(section) {
         Ok(grant) => {
             let _ = core.advance(until);

@@ -1,56 +1,36 @@
 -- An advance that is not refused goes no further than what is due.
-use Rattle.std.proofs.Common.{◌≡◌, ℕ, ◌<◌, ◌≤◌, min, Bool, true, false, cond, ltb, List, [], ◌∷◌, Some, None, Option, refl, arith}
+use Rattle.std.proofs.Common.{◌≡◌, ℕ, ◌≤◌, List, [], ◌∷◌, Some, None, Option, refl, arith}
 use Rattle.std.specs.List.{AllByRecursion}
-use Rattle.std.proofs.lemmas.Bool.{cond-false, ltb-false}
+use Rattle.std.proofs.lemmas.Bool.Decides.{nat_tests}
 use Rattle.queue.specs.declared.waiting.Waiting.{Waiting}
 use Rattle.queue.specs.declared.released.Released.{Released}
-use Rattle.machine.specs.declared.call.Refusal.{Refusal}
-use Rattle.machine.specs.declared.call.Refusal.TheVariants.{Past, Far, BeyondDue}
 use Rattle.machine.specs.State.{Table, Job, State, sooner, top_deadline, first_deadline, first_release, due}
-use Rattle.machine.specs.declared.call.Call.TheVariants.{Advance}
-use Rattle.machine.specs.Step.{beyond, not_advanced, last_instant, Outcome, refused, advanced, advanced_answer, step}
-use Rattle.machine.proofs.Lists.{Sorted, Rising, all_map}
+use Rattle.machine.specs.Step.{beyond, not_advanced}
+use Rattle.machine.proofs.Lists.{Sorted, Rising, from_first, from_lowest}
 use Rattle.machine.proofs.Shape.{Shape}
 
-some_none : {X : Type 0} (x : X) → Some x ≡ None → ⊥
-some_none x e = let z : ◌≡◌ {A = ℕ} 0 1 = cc in omega arith
-
-cond_none : {X : Type 0} (b : Bool) (x : X) (o : Option X) → cond b (Some x) o ≡ None → (b ≡ false) × (o ≡ None)
-cond_none true x o e = absurd (some_none x e)
-cond_none false x o e = (refl, e)
-
 upto : (t d : ℕ) → beyond t (Some d) ≡ None → t ≤ d
-upto t d e = ltb-false d t (cond_none (ltb d t) d None e).0
-
-upto_none : (t d : ℕ) → t ≤ d → beyond t (Some d) ≡ None
-upto_none t d h = cond-false (ltb d t) (Some d) None (Rattle.std.proofs.lemmas.Bool.le-ltb d t h)
+upto t d e = grind (arith, nat_tests)
 
 upto_both : (t : ℕ) (a b : Option ℕ) → beyond t (sooner a b) ≡ None → (beyond t a ≡ None) × (beyond t b ≡ None)
 upto_both t None b e = (refl, e)
 upto_both t (Some x) None e = (e, refl)
-upto_both t (Some x) (Some y) e = let le = upto t (min x y) e in (upto_none t x (omega arith), upto_none t y (omega arith))
-
-due_refusal : (o : Option ℕ) → ◌≡◌ {A = Option Refusal} (elim o [ None ↦ None | Some d ↦ Some (BeyondDue d) ]) None → o ≡ None
-due_refusal None e = refl
-due_refusal (Some d) e = absurd (some_none (BeyondDue d) e)
+upto_both t (Some x) (Some y) e = grind (arith, nat_tests)
 
 pub accepted : (t : ℕ) (s : State) → not_advanced t s ≡ None → (s.clock ≤ t) × (beyond t (due s) ≡ None)
-accepted t s e =
-    let a = cond_none (ltb t s.clock) Past _ e in
-    let b = cond_none (ltb last_instant t) Far _ a.1 in
-    (ltb-false _ _ a.0, due_refusal (beyond t (due s)) b.1)
+accepted t s e = grind (arith, nat_tests)
 
 first_waits : (t : ℕ) (w : List Waiting) → Sorted (λ a. a.release) w → beyond t (first_release w) ≡ None → AllByRecursion (λ a. t ≤ a.release) w
 first_waits t [] so e = tt
-first_waits t (a ∷ w) so e = let le = upto t a.release e in (le, all_map (λ z. a.release ≤ z.release) (λ z. t ≤ z.release) (λ z h. omega arith) w so.0)
+first_waits t (a ∷ w) so e = from_first (λ z. z.release) t a w so (upto t a.release e)
 
 first_out : (t : ℕ) (r : List Released) → Sorted (λ e. e.deadline) r → beyond t (first_deadline r) ≡ None → AllByRecursion (λ e. t ≤ e.deadline) r
 first_out t [] so e = tt
-first_out t (a ∷ r) so e = let le = upto t a.deadline e in (le, all_map (λ z. a.deadline ≤ z.deadline) (λ z. t ≤ z.deadline) (λ z h. omega arith) r so.0)
+first_out t (a ∷ r) so e = from_first (λ z. z.deadline) t a r so (upto t a.deadline e)
 
 first_stands : (t : ℕ) (s : List Job) → Rising (λ q. q.deadline) s → beyond t (top_deadline s) ≡ None → AllByRecursion (λ q. t ≤ q.deadline) s
 first_stands t [] ri e = tt
-first_stands t (q ∷ qs) ri e = let le = upto t q.deadline e in (le, all_map (λ z. q.deadline < z.deadline) (λ z. t ≤ z.deadline) (λ z h. omega arith) qs ri.0)
+first_stands t (q ∷ qs) ri e = from_lowest (λ z. z.deadline) t q qs ri (upto t q.deadline e)
 
 -- everything is due at t or later
 pub record Ahead (t : ℕ) (w : List Waiting) (r : List Released) (s : List Job) : Type 0 where
@@ -63,13 +43,3 @@ ahead k c t s i e =
     let a = upto_both t (top_deadline s.stack) _ e in
     let b = upto_both t (first_deadline s.released) (first_release s.waiting) a.1 in
     record { waits = first_waits t s.waiting i.by_release b.1; readies = first_out t s.released i.by_deadline b.0; jobs = first_stands t s.stack i.rising a.0 }
-
--- what an advance leaves, by why it is refused
-abbrev outcome_of : Table → ℕ → State → Option Refusal → Outcome
-outcome_of k t s o = elim o [ Some r ↦ refused s r | None ↦ record { state = advanced k t s; answer = advanced_answer s (advanced k t s) } ]
-
-pub advance_cases : (k : Table) (t : ℕ) (s : State) (P : Outcome → Type 0) → ((r : Refusal) → P (refused s r))
-    → (not_advanced t s ≡ None → P (record { state = advanced k t s; answer = advanced_answer s (advanced k t s) })) → P (step k (Advance t) s)
-unfolding step
-advance_cases k t s P refuses accepts =
-    elim (not_advanced t s) as (λ o. not_advanced t s ≡ o → P (outcome_of k t s o)) [ Some r ↦ λ _. refuses r | None ↦ λ e. accepts e ] refl

@@ -1,54 +1,65 @@
 -- The counts and balances of every run: counts are what the history tells, no job, section or task is lost, and no grant ends twice.
-use Rattle.std.proofs.Common.{◌≡◌, ℕ, zero, suc, ◌+◌, ◌<◌, ◌≤◌, true, false, cond, eqb, List, [], ◌∷◌, length, refl, ap, inl, inr, arith}
-use Rattle.std.proofs.lemmas.Bool.{cases_lt, cases_Bool, cond-true, cond-false, eq-eqb, ne_eqb, both_ways}
+use Rattle.std.proofs.Common.{◌≡◌, ℕ, zero, suc, ◌+◌, ◌<◌, ◌≤◌, Bool, true, ◌⊎◌, List, [], ◌∷◌, length, refl, inl, inr, arith, if◌then◌else◌, ◌==◌, nat_lt}
+use Rattle.std.proofs.lemmas.Bool.{cases_Bool, cases_eq}
+use Rattle.std.proofs.lemmas.Bool.Decides.{nat_tests}
+use Rattle.std.proofs.lemmas.List.Recursion.{same_from_clauses}
 use Rattle.queue.specs.declared.waiting.Waiting.{Waiting}
 use Rattle.queue.specs.declared.released.Released.{Released}
 use Rattle.machine.specs.declared.call.Call.{Call}
 use Rattle.machine.specs.declared.call.Answer.{Answer}
+use Rattle.machine.specs.declared.call.Refusal.{Refusal}
 use Rattle.machine.specs.declared.call.Answer.TheVariants.{Advanced, Granted, Running, Refused}
 use Rattle.machine.specs.State.{Table, Job, State, start, first_releases}
 use Rattle.machine.specs.Step.{step}
-use Rattle.machine.specs.Run.{Event, history_from, history, state_from, reached, total, given, ended, is_open}
+use Rattle.machine.specs.Run.{Event, history_from, history, state_from, reached, total, gives, ended, is_open}
 use Rattle.machine.specs.Promise.{waits, is_out, stands, open_count, releases_of, expiries_of, finishes_of, entries_of, leaves_of, taken_of, Counted, Balance}
 use Rattle.machine.proofs.Lists.{tot}
 use Rattle.machine.proofs.Shape.{Shape}
+use Rattle.machine.proofs.Cases.{run_keeps}
 use Rattle.machine.proofs.Told.{event_of, told}
 
--- the counts of one state are those of another and what a history tells
-record Sums (s : State) (h : List Event) (s' : State) : Type 0 where
-  releases : s'.counts.releases ≡ s.counts.releases + total releases_of h
-  expiries : s'.counts.expiries ≡ s.counts.expiries + total expiries_of h
-  finishes : s'.counts.finishes ≡ s.counts.finishes + total finishes_of h
-  entries : s'.counts.entries ≡ s.counts.entries + total entries_of h
-  leaves : s'.counts.leaves ≡ s.counts.leaves + total leaves_of h
-  taken : s'.counts.taken ≡ s.counts.taken + total taken_of h
+-- a call makes one entry or none
+one_entry : (s : State) (c : Call) (a : Answer Refusal) (s' : State) → entries_of (record { before = s; call = c; answer = a; after = s' }) ≤ 1
+one_entry s c (Advanced (x, r, i)) s' = omega arith
+one_entry s c (Granted g) s' = omega arith
+one_entry s c (Running i) s' = omega arith
+one_entry s c (Refused r) s' = omega arith
+
+-- whether a grant was made, whether it was made and is not open any more, and whether a call ends it
+abbrev used : ℕ → State → ℕ
+used n s = if nat_lt n s.counts.entries then 1 else 0
+
+abbrev over : ℕ → State → ℕ
+over n s = if nat_lt n s.counts.entries then (if is_open n s.stack then 0 else 1) else 0
+
+abbrev ends : ℕ → Event → ℕ
+ends n e = if is_open n e.before.stack then (if is_open n e.after.stack then 0 else 1) else 0
+
+-- a grant that was made and is not open is never open again
+over_more : (n m m' : ℕ) (b b' : Bool) → m ≤ m' → (b ≡ true → n < m) → (b' ≡ true → (b ≡ true) ⊎ ((n ≡ m) × (m' ≡ m + 1)))
+    → (if nat_lt n m then (if b then 0 else 1) else 0) + (if b then (if b' then 0 else 1) else 0) ≤ (if nat_lt n m' then (if b' then 0 else 1) else 0)
+over_more n m m' b b' up h opens = grind (arith, nat_tests)
 
 module _ (k : Table) where
-  sums : (cs : List Call) (s : State) → Sums s (history_from k s cs) (state_from k s cs)
-  sums [] s = record { releases = omega arith; expiries = omega arith; finishes = omega arith; entries = omega arith; leaves = omega arith; taken = omega arith }
-  sums (c ∷ cs) s =
-      let t = told k c s in
-      let m = sums cs (step k c s).state in
-      record {
-        releases = omega (arith, t.releases, m.releases);
-        expiries = omega (arith, t.expiries, m.expiries);
-        finishes = omega (arith, t.finishes, m.finishes);
-        entries = omega (arith, t.entries, m.entries);
-        leaves = omega (arith, t.leaves, m.leaves);
-        taken = omega (arith, t.taken, m.taken);
-      }
+  -- what each call adds to a number of the state, a history adds up
+  added : (f : State → ℕ) (g : Event → ℕ) → ((c : Call) (s : State) → f (step k c s).state ≡ f s + g (event_of s c (step k c s))) → (cs : List Call) (s : State)
+      → f (state_from k s cs) ≡ f s + total g (history_from k s cs)
+  added f g add [] s = omega arith
+  added f g add (c ∷ cs) s = omega (arith, add c s, added f g add cs (step k c s).state)
+
+  adds_up : (f : State → ℕ) (g : Event → ℕ) → ((c : Call) (s : State) → f (step k c s).state ≡ f s + g (event_of s c (step k c s))) → f (start k) ≡ 0 → (cs : List Call)
+      → f (reached k cs) ≡ total g (history k cs)
+  adds_up f g add none cs = omega (arith, added f g add cs (start k))
 
   pub counted_reached : (cs : List Call) → Counted (history k cs) (reached k cs)
-  counted_reached cs =
-      let m = sums cs (start k) in
-      record {
-        releases = omega (arith, m.releases);
-        expiries = omega (arith, m.expiries);
-        finishes = omega (arith, m.finishes);
-        entries = omega (arith, m.entries);
-        leaves = omega (arith, m.leaves);
-        taken = omega (arith, m.taken);
-      }
+  counted_reached cs = record {
+    releases = adds_up (λ s. s.counts.releases) releases_of (λ c s. (told k c s).releases) refl cs;
+    expiries = adds_up (λ s. s.counts.expiries) expiries_of (λ c s. (told k c s).expiries) refl cs;
+    finishes = adds_up (λ s. s.counts.finishes) finishes_of (λ c s. (told k c s).finishes) refl cs;
+    entries = adds_up (λ s. s.counts.entries) entries_of (λ c s. (told k c s).entries) refl cs;
+    leaves = adds_up (λ s. s.counts.leaves) leaves_of (λ c s. (told k c s).leaves) refl cs;
+    taken = adds_up (λ s. s.counts.taken) taken_of (λ c s. (told k c s).taken) refl cs;
+  }
 
   -- jobs and open sections
   abbrev Jobs : State → Type 0
@@ -57,161 +68,54 @@ module _ (k : Table) where
   abbrev Sections : State → Type 0
   Sections s = s.counts.entries ≡ s.counts.leaves + s.counts.taken + open_count s.stack
 
-  jobs_run : (cs : List Call) (s : State) → Jobs s → Jobs (state_from k s cs)
-  jobs_run [] s h = h
-  jobs_run (c ∷ cs) s h = jobs_run cs (step k c s).state (omega (arith, (told k c s).jobs))
-
-  sections_run : (cs : List Call) (s : State) → Sections s → Sections (state_from k s cs)
-  sections_run [] s h = h
-  sections_run (c ∷ cs) s h = sections_run cs (step k c s).state (omega (arith, (told k c s).sections))
-
-  -- a call makes one entry or none
-  one_entry : (s : State) (c : Call) (a : Answer) (s' : State) → entries_of (record { before = s; call = c; answer = a; after = s' }) ≤ 1
-  one_entry s c (Advanced x r i) s' = omega arith
-  one_entry s c (Granted g) s' = omega arith
-  one_entry s c (Running i) s' = omega arith
-  one_entry s c (Refused r) s' = omega arith
-
-  -- a serial that was used is not given again
-  not_again : (cs : List Call) (s : State) (n : ℕ) → n < s.counts.entries → given n (history_from k s cs) ≡ 0
-  not_again [] s n lt = refl
-  not_again (c ∷ cs) s n lt =
+  used_more : (n : ℕ) (c : Call) (s : State) → used n (step k c s).state ≡ used n s + gives n (step k c s).answer
+  used_more n c s =
       let t = told k c s in
-      let z = (t.serials n).1 (λ e. omega (arith, e, lt)) in
-      omega (arith, z, not_again cs (step k c s).state n (omega (arith, t.entries, lt)))
-
-  -- one that is not used yet in the end was never given
-  not_yet : (cs : List Call) (s : State) (n : ℕ) → (state_from k s cs).counts.entries ≤ n → given n (history_from k s cs) ≡ 0
-  not_yet [] s n ge = refl
-  not_yet (c ∷ cs) s n ge =
-      let t = told k c s in
-      let ih = not_yet cs (step k c s).state n ge in
-      let up = (sums cs (step k c s).state).entries in
-      elim (cases_lt s.counts.entries n) [
-        | inl lt ↦ let z = (t.serials n).1 (λ e. omega (arith, e, lt)) in omega (arith, z, ih)
-        | inr le ↦ let z = (t.serials n).0 (omega (arith, t.entries, up, ge, le)) in omega (arith, z, ih, t.entries, up, ge, le)
-      ]
-
-  -- one that is used in between is given once
-  given_once : (cs : List Call) (s : State) (n : ℕ) → s.counts.entries ≤ n → n < (state_from k s cs).counts.entries → given n (history_from k s cs) ≡ 1
-  given_once [] s n ge lt = absurd (omega (arith, ge, lt))
-  given_once (c ∷ cs) s n ge lt =
-      let t = told k c s in
-      let s' : State = (step k c s).state in
-      let one = one_entry s c (step k c s).answer s' in
-      elim (cases_lt s.counts.entries n) [
-        | inl lt' ↦
-            let z = (t.serials n).1 (λ e. omega (arith, e, lt')) in
-            omega (arith, z, given_once cs s' n (omega (arith, t.entries, one, lt')) lt)
-        | inr le ↦
-            let z = (t.serials n).0 (omega (arith, ge, le)) in
-            elim (cases_lt n s'.counts.entries) [
-              | inl made' ↦ omega (arith, z, one, t.entries, made', ge, not_again cs s' n made')
-              | inr not_made ↦ omega (arith, z, t.entries, not_made, le, ge, given_once cs s' n not_made lt)
-            ]
-      ]
-
-  -- whether a call ends the grant
-  abbrev ends : ℕ → Event → ℕ
-  ends n e = cond (is_open n e.before.stack) (cond (is_open n e.after.stack) 0 1) 0
-
-  -- a grant that was made and is not open is never open again
-  closed_after : (c : Call) (s : State) (n : ℕ) → n < s.counts.entries → is_open n s.stack ≡ false → is_open n (step k c s).state.stack ≡ false
-  closed_after c s n lt no' =
-      elim (cases_Bool (is_open n (step k c s).state.stack)) [
-        | inr f ↦ f
-        | inl t ↦ elim ((told k c s).opens n t) [ inl y ↦ absurd (both_ways (is_open n s.stack) no' y) | inr e ↦ absurd (omega (arith, e.0)) ]
-      ]
-
-  entries_up : (c : Call) (s : State) → s.counts.entries ≤ (step k c s).state.counts.entries
-  entries_up c s = omega (arith, (told k c s).entries)
-
-  never : (cs : List Call) (s : State) (n : ℕ) → n < s.counts.entries → is_open n s.stack ≡ false → ended n (history_from k s cs) ≡ 0
-  never [] s n lt no' = refl
-  never (c ∷ cs) s n lt no' =
-      let ih = never cs (step k c s).state n (omega (arith, entries_up c s)) (closed_after c s n lt no') in
-      let z : ends n (event_of s c (step k c s)) ≡ 0 = cond-false (is_open n s.stack) _ 0 no' in
-      omega (arith, ih, z)
+      let one = one_entry s c (step k c s).answer (step k c s).state in
+      grind (arith, nat_tests, t.serials n, t.entries)
 
   -- every open grant was made
   abbrev Made : State → Type 0
   Made s = (n : ℕ) → is_open n s.stack ≡ true → n < s.counts.entries
 
   made_after : (c : Call) (s : State) → Made s → Made (step k c s).state
-  made_after c s h n t =
-      elim ((told k c s).opens n t) [ inl y ↦ omega (arith, h n y, entries_up c s) | inr e ↦ omega (arith, e.0, e.1) ]
+  made_after c s h n t = let u = told k c s in elim (u.opens n t) [ inl y ↦ omega (arith, h n y, u.entries) | inr e ↦ omega (arith, e.0, e.1) ]
 
-  once_ended : (cs : List Call) (s : State) → Made s → (n : ℕ) → ended n (history_from k s cs) ≤ 1
-  once_ended [] s h n = omega arith
-  once_ended (c ∷ cs) s h n =
-      let s' : State = (step k c s).state in
-      let ih = once_ended cs s' (made_after c s h) n in
-      elim (cases_Bool (is_open n s.stack)) [
-        | inr f ↦ let z : ends n (event_of s c (step k c s)) ≡ 0 = cond-false (is_open n s.stack) _ 0 f in omega (arith, ih, z)
-        | inl t ↦
-            let y : ends n (event_of s c (step k c s)) ≡ cond (is_open n s'.stack) 0 1 = cond-true (is_open n s.stack) (cond (is_open n s'.stack) 0 1) 0 t in
-            elim (cases_Bool (is_open n s'.stack)) [
-              | inl u ↦ let z = cond-true {A = ℕ} (is_open n s'.stack) 0 1 u in omega (arith, ih, y, z)
-              | inr u ↦
-                  let z = cond-false {A = ℕ} (is_open n s'.stack) 0 1 u in
-                  omega (arith, y, z, never cs s' n (omega (arith, h n t, entries_up c s)) u)
-            ]
-      ]
+  once_ended : (n : ℕ) (cs : List Call) (s : State) → Made s → over n s + ended n (history_from k s cs) ≤ 1
+  once_ended n [] s h = grind (arith, nat_tests)
+  once_ended n (c ∷ cs) s h = omega (arith, (let t = told k c s in over_more n s.counts.entries _ (is_open n s.stack) _ (omega (arith, t.entries)) (h n) (t.opens n)), once_ended n cs (step k c s).state (made_after c s h))
 
 -- places
 is : ℕ → ℕ → ℕ
-is i n = cond (eqb n i) 1 0
+is i n = if n == i then 1 else 0
 
-waits_is : (i : ℕ) (w : List Waiting) → tot (λ a. is i a.task) w ≡ waits i w
+firsts : (i n j : ℕ) → tot (λ (a : Waiting). is i a.task) (first_releases j n) + (if nat_lt i j then 1 else 0) ≡ (if nat_lt i (j + n) then 1 else 0)
 unfolding is
-waits_is i [] = refl
-waits_is i (a ∷ w) = ap (λ n. cond (eqb a.task i) 1 0 + n) (waits_is i w)
+firsts i zero j = grind (arith, nat_tests)
+firsts i (suc n) j = let ih = firsts i n (j + 1) in grind (arith, nat_tests)
 
-out_is : (i : ℕ) (r : List Released) → tot (λ e. is i e.task) r ≡ is_out i r
+-- each task stands in just one place, and no number that is no task's stands anywhere
+placed : (k : Table) (c : ℕ) (w : List Waiting) (r : List Released) (s : List Job) → Shape k c w r s → (i : ℕ) → waits i w + is_out i r + stands i s ≡ (if nat_lt i (length k.tasks) then 1 else 0)
 unfolding is
-out_is i [] = refl
-out_is i (e ∷ r) = ap (λ n. cond (eqb e.task i) 1 0 + n) (out_is i r)
-
-stands_is : (i : ℕ) (s : List Job) → tot (λ q. is i q.task) s ≡ stands i s
-unfolding is
-stands_is i [] = refl
-stands_is i (q ∷ s) = ap (λ n. cond (eqb q.task i) 1 0 + n) (stands_is i s)
-
-none_first : (i n j : ℕ) → i < j → tot (λ (a : Waiting). is i a.task) (first_releases j n) ≡ 0
-unfolding is
-none_first i zero j h = refl
-none_first i (suc n) j h = let z = cond-false {A = ℕ} (eqb j i) 1 0 (ne_eqb j i (λ e. omega arith)) in omega (arith, z, none_first i n (j + 1) (omega arith))
-
-none_past : (i n j : ℕ) → j + n ≤ i → tot (λ (a : Waiting). is i a.task) (first_releases j n) ≡ 0
-unfolding is
-none_past i zero j h = refl
-none_past i (suc n) j h = let z = cond-false {A = ℕ} (eqb j i) 1 0 (ne_eqb j i (λ e. omega arith)) in omega (arith, z, none_past i n (j + 1) (omega arith))
-
-one_first : (i n j : ℕ) → j ≤ i → i < j + n → tot (λ (a : Waiting). is i a.task) (first_releases j n) ≡ 1
-unfolding is
-one_first i zero j h g = absurd (omega arith)
-one_first i (suc n) j h g =
-    elim (cases_lt j i) [
-      | inl lt ↦ let z = cond-false {A = ℕ} (eqb j i) 1 0 (ne_eqb j i (λ e. omega arith)) in omega (arith, z, one_first i n (j + 1) (omega arith) (omega arith))
-      | inr ge ↦ let z = cond-true {A = ℕ} (eqb j i) 1 0 (eq-eqb j i (omega arith)) in omega (arith, z, none_first i n (j + 1) (omega arith))
-    ]
-
--- each task stands in just one place
-pub placed : (k : Table) (c : ℕ) (w : List Waiting) (r : List Released) (s : List Job) → Shape k c w r s → (i : ℕ) → i < length k.tasks → waits i w + is_out i r + stands i s ≡ 1
-placed k c w r s h i lt =
-    omega (arith, h.once (is i), waits_is i w, out_is i r, stands_is i s, one_first i (length k.tasks) 0 (omega arith) (omega arith))
-
--- and no number that is no task's stands anywhere
-pub stranger : (k : Table) (c : ℕ) (w : List Waiting) (r : List Released) (s : List Job) → Shape k c w r s → (i : ℕ) → length k.tasks ≤ i → waits i w + is_out i r + stands i s ≡ 0
-stranger k c w r s h i ge =
-    omega (arith, h.once (is i), waits_is i w, out_is i r, stands_is i s, none_past i (length k.tasks) 0 (omega arith))
+placed k c w r s h i =
+    grind (
+      arith,
+      nat_tests,
+      h.once (is i),
+      firsts i (length k.tasks) 0,
+      same_from_clauses (tot (λ (a : Waiting). is i a.task)) (waits i) (λ a n. is i a.task + n) refl (λ _ _. refl) (λ _ _. refl) w,
+      same_from_clauses (tot (λ (e : Released). is i e.task)) (is_out i) (λ e n. is i e.task + n) refl (λ _ _. refl) (λ _ _. refl) r,
+      same_from_clauses (tot (λ (q : Job). is i q.task)) (stands i) (λ q n. is i q.task + n) refl (λ _ _. refl) (λ _ _. refl) s,
+    )
 
 pub balance_reached : (k : Table) (cs : List Call) → Shape k (reached k cs).clock (reached k cs).waiting (reached k cs).released (reached k cs).stack → Balance k (history k cs) (reached k cs)
-balance_reached k cs h = record {
-  places = placed k (reached k cs).clock (reached k cs).waiting (reached k cs).released (reached k cs).stack h;
-  strangers = stranger k (reached k cs).clock (reached k cs).waiting (reached k cs).released (reached k cs).stack h;
-  jobs = jobs_run k cs (start k) refl;
-  sections = sections_run k cs (start k) refl;
-  fresh = λ n. (given_once k cs (start k) n (omega arith), not_yet k cs (start k) n);
-  once = once_ended k cs (start k) (λ n e. absurd (Rattle.std.proofs.lemmas.Bool.false≢true e));
-}
+balance_reached k cs h =
+    let s : State = reached k cs in
+    record {
+      places = λ i lt. let e = placed k s.clock s.waiting s.released s.stack h i in grind (arith, nat_tests);
+      strangers = λ i ge. let e = placed k s.clock s.waiting s.released s.stack h i in grind (arith, nat_tests);
+      jobs = run_keeps k (Jobs k) (λ c x i. omega (arith, i, (told k c x).jobs)) cs (start k) refl;
+      sections = run_keeps k (Sections k) (λ c x i. omega (arith, i, (told k c x).sections)) cs (start k) refl;
+      fresh = λ n. let e = adds_up k (used n) (λ x. gives n x.answer) (used_more k n) (grind (arith, nat_tests)) cs in (λ lt. grind (arith, nat_tests), λ ge. grind (arith, nat_tests));
+      once = λ n. omega (arith, once_ended k n cs (start k) (λ m e. absurd (Rattle.std.proofs.lemmas.Bool.false≢true e)));
+    }

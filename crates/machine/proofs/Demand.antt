@@ -1,5 +1,6 @@
 -- What a task's jobs with absolute deadlines from one on ask for by an instant.
-use Rattle.std.proofs.Common.{◌≡◌, ℕ, ◌+◌, ◌-◌, ◌*◌, ◌/◌, ◌<◌, ◌≤◌, length, mul-le-mul_left, mul-zero, le-div_iff_mul-le, div-mul-le_self, arith}
+use Rattle.std.proofs.Common.{◌≡◌, ℕ, ◌+◌, ◌-◌, ◌*◌, ◌/◌, ◌<◌, ◌≤◌, length, mul-le-mul_left, mul-zero, div-mul-le_self, arith}
+use Rattle.std.proofs.lemmas.Nat.{le-div}
 use native.Mathlib.Nat.{div-eq_of_lt, add-div_right}
 use Rattle.admission.specs.Demand.{demand_of}
 use Rattle.machine.specs.State.{task_at, Table, relative, period, cost}
@@ -8,9 +9,6 @@ use Rattle.machine.proofs.Tables.{Fit}
 -- the jobs of task i with deadlines from dl on, up to d
 unfoldable pub dem : Table → ℕ → ℕ → ℕ → ℕ
 dem k d i dl = cost k i * ((d + period k i - dl) / period k i)
-
-div_mono : (x y k : ℕ) → 0 < k → x ≤ y → x / k ≤ y / k
-div_mono x y k p h = (le-div_iff_mul-le p).1 (omega (arith, div-mul-le_self x k))
 
 module _ (k : Table) (ok : Fit k) where
   pub dem_none : (d i dl : ℕ) → i < length k.tasks → d < dl → dem k d i dl ≡ 0
@@ -24,9 +22,8 @@ module _ (k : Table) (ok : Fit k) where
   unfolding dem
   dem_some d i dl n h =
       let a = ok.c_pos i n in let b = ok.c_d i n in let c = ok.d_t i n in
-      let x : ℕ = d - dl in
-      let u : d + period k i - dl ≡ x + period k i = omega arith in
-      let v : d + period k i - (dl + period k i) ≡ x = omega arith in
+      let u : d + period k i - dl ≡ d - dl + period k i = omega arith in
+      let v : d + period k i - (dl + period k i) ≡ d - dl = omega arith in
       let p : 0 < period k i = omega arith in
       rw (u, v, add-div_right) (omega arith)
 
@@ -35,4 +32,4 @@ module _ (k : Table) (ok : Fit k) where
   unfolding dem
   dem_from d t i dl n h =
       let a = ok.c_pos i n in let b = ok.c_d i n in let c = ok.d_t i n in
-      mul-le-mul_left (cost k i) (div_mono _ _ (period k i) (omega arith) (omega arith))
+      mul-le-mul_left (cost k i) (le-div _ _ (period k i) (omega arith) (omega (arith, div-mul-le_self (d + period k i - dl) (period k i))))

@@ -1,20 +1,21 @@
 -- Each part of a call keeps the law.
-use Rattle.std.proofs.Common.{◌≡◌, ℕ, ◌+◌, ◌-◌, ◌<◌, ◌≤◌, true, ltb, ◌⊎◌, List, [], ◌∷◌, length, ap, inl, inr, arith}
+use Rattle.std.proofs.Common.{◌≡◌, ℕ, suc, ◌+◌, ◌-◌, ◌<◌, ◌≤◌, true, ◌⊎◌, List, [], ◌∷◌, length, ap, inl, inr, arith}
 use Rattle.std.specs.List.{AllByRecursion}
-use Rattle.std.proofs.lemmas.Bool.{lt-ltb, ltb-false, cases_lt, and_cases, both_ways, true≢false}
+use Rattle.std.proofs.lemmas.Bool.{cases_lt, true≢false}
+use Rattle.std.proofs.lemmas.Bool.Decides.{nat_tests}
 use Rattle.queue.specs.declared.waiting.Waiting.{Waiting}
 use Rattle.queue.specs.declared.released.Released.{Released}
 use Rattle.queue.specs.Order.{insert_sorted}
 use Rattle.queue.specs.Entries.{waiting_before, released_before}
 use Rattle.admission.specs.Demand.{demand, demand_of, reaches}
-use Rattle.machine.specs.State.{task_at, Table, Open, Job, relative, period, cost, section_at, inherited, first_releases}
+use Rattle.machine.specs.State.{task_at, Table, Open, Job, relative, period, cost, section_at, first_releases}
 use Rattle.machine.specs.Step.{goes, put_back, release_of}
-use Rattle.machine.proofs.Lists.{tot, Sorted, Rising, tot_insert, tot_le, all_insert, all_map, all_map2}
+use Rattle.machine.proofs.Lists.{tot, tot_insert, tot_le, all_insert, all_map, all_map2, from_first, from_lowest}
 use Rattle.machine.proofs.Tables.{Fit, demand_is}
 use Rattle.machine.proofs.Demand.{dem, dem_none, dem_some, dem_from}
-use Rattle.machine.proofs.Shape.{EntryOk, JobOk, Inward, Shape, Settled, known}
-use Rattle.machine.proofs.Moves.{next_of, begin, with_open, above_all}
-use Rattle.machine.proofs.Law.{low, left_in, left_past, of_waiting, of_released, of_job, Quiet, Busy, Law, low_from, left_tick, past_less, jobs_less, left_closed, left_bound, past_skip, past_take, job_due, job_not}
+use Rattle.machine.proofs.Shape.{JobOk, Shape, Settled, held_back, known}
+use Rattle.machine.proofs.Moves.{next_of, begin, with_open, push_shape}
+use Rattle.machine.proofs.Law.{low, left_in, left_past, of_waiting, of_released, of_job, Quiet, Busy, Law, low_from, left_tick, past_less, jobs_less, left_closed, left_bound}
 
 -- what an advance by δ adds to run times and stays, of the running job
 pub record Ticks (k : Table) (δ : ℕ) (ran ran' : ℕ → ℕ → ℕ) (st st' : ℕ → ℕ) (q : Job) : Type 0 where
@@ -29,26 +30,18 @@ Top k δ ran ran' st st' (q ∷ qs) = Ticks k δ ran ran' st st' q
 
 module _ (k : Table) (ok : Fit k) where
   -- a running job with a deadline past d, while a released one is due by d, is in a section with a low level
-  pub blocked : (c d from : ℕ) (r : List Released) (q : Job) (qs : List Job) → d < q.deadline → Settled k r (q ∷ qs)
-      → AllByRecursion (EntryOk k c) r → Sorted (λ e. e.deadline) r → Rising (λ p. p.deadline) (q ∷ qs) → Inward k r q
-      → AllByRecursion (λ e. e.deadline ≤ d → from + relative k e.task ≤ e.deadline) r
-      → Quiet d r (q ∷ qs) ⊎ (low k (d - from) q.opened ≡ true)
-  blocked c d from [] q qs h st en so ri inw af = inl (tt, (h, all_map (λ p. q.deadline < p.deadline) (λ p. d < p.deadline) (λ p g. omega arith) qs ri.0))
-  blocked c d from (e ∷ es) q qs h st en so ri inw af =
+  pub blocked : (c d from : ℕ) (w : List Waiting) (r : List Released) (q : Job) (qs : List Job) → Shape k c w r (q ∷ qs) → Settled k r (q ∷ qs) → d < q.deadline
+      → AllByRecursion (λ e. e.deadline ≤ d → from + relative k e.task ≤ e.deadline) r → Quiet d r (q ∷ qs) ⊎ (low k (d - from) q.opened ≡ true)
+  blocked c d from w [] q qs i st h af = inl (tt, from_lowest (λ p. p.deadline) (suc d) q qs i.rising h)
+  blocked c d from w (e ∷ es) q qs i st h af =
       elim (cases_lt d e.deadline) [
         | inl far ↦ inl (
-          (far, all_map (λ z. e.deadline ≤ z.deadline) (λ z. d < z.deadline) (λ z g. omega arith) es so.0),
-          (h, all_map (λ p. q.deadline < p.deadline) (λ p. d < p.deadline) (λ p g. omega arith) qs ri.0),
+          from_first (λ z. z.deadline) (suc d) e es i.by_deadline far,
+          from_lowest (λ p. p.deadline) (suc d) q qs i.rising h,
         )
         | inr due ↦
             let lt : e.deadline < q.deadline = omega arith in
-            let own = en.0.own in
-            let no' : inherited k q ≤ e.relative =
-            elim (and_cases (ltb e.deadline q.deadline) (ltb e.relative (inherited k q)) st) [
-              | inl f ↦ absurd (both_ways _ f (lt-ltb _ _ lt))
-              | inr f ↦ ltb-false e.relative (inherited k q) f
-            ] in
-            inr (low_from k (relative k q.task) (relative k e.task) (d - from) q.opened (omega arith) (inw.0 lt) (omega (arith, af.0 due)))
+            inr (low_from k (relative k q.task) (relative k e.task) (d - from) q.opened (omega (arith, held_back k e q qs st lt, i.readies.0.own)) (i.inward.0.0 lt) (omega (arith, af.0 due)))
       ]
 
   idle_ready : (d : ℕ) (r : List Released) → Settled k r [] → AllByRecursion (λ e. d < e.deadline) r
@@ -61,48 +54,16 @@ module _ (k : Table) (ok : Fit k) where
   tick_law c t ran ran' st st' w r [] le mr ms tk i se law = λ d h. inl (idle_ready d r se, tt)
   tick_law c t ran ran' st st' w r (q ∷ qs) le mr ms tk i se law = λ d h.
       let u : Ticks k (t - c) ran ran' st st' q = tk in
+      let jl = jobs_less k ran ran' mr d qs in
       elim (law d (omega arith)) [
         | inl z ↦ inl z
-        | inr b ↦
-            let jl = jobs_less k ran ran' mr d qs in
-            elim (cases_lt d q.deadline) [
-              | inl far ↦
-                  elim (blocked c d b.from r q qs far se i.readies i.by_deadline i.rising i.inward.0 b.after) [
-                    | inl z ↦ inl z
-                    | inr lo ↦ inr (record {
-                      from = b.from;
-                      past = omega (arith, b.past);
-                      after = b.after;
-                      room = omega (
-                        arith,
-                        b.room,
-                        jl,
-                        past_take k st d (d - b.from) q qs far,
-                        past_take k st' d (d - b.from) q qs far,
-                        left_tick k st st' (t - c) (d - b.from) q.opened lo u.stays u.caps,
-                        job_not k ran d q far,
-                        job_not k ran' d q far,
-                      );
-                    })
-                  ]
-              | inr due ↦ inr (record {
-                from = b.from;
-                past = omega (arith, b.past);
-                after = b.after;
-                room = omega (
-                  arith,
-                  b.room,
-                  jl,
-                  past_less k st st' ms d (d - b.from) qs,
-                  past_skip k st d (d - b.from) q qs due,
-                  past_skip k st' d (d - b.from) q qs due,
-                  job_due k ran d q due,
-                  job_due k ran' d q due,
-                  u.top,
-                  u.cap,
-                );
-              })
-            ]
+        | inr (from, b) ↦ elim (cases_lt d q.deadline) [
+          | inl far ↦ elim (blocked c d from w r q qs i se far b.after) [
+            | inl z ↦ inl z
+            | inr lo ↦ inr (from, search (arith, nat_tests, left_tick k st st' (t - c) (d - from) q.opened lo u.stays u.caps))
+          ]
+          | inr due ↦ inr (from, search (arith, nat_tests, past_less k st st' ms d (d - from) qs))
+        ]
       ]
 
   module _ (ran : ℕ → ℕ → ℕ) (st : ℕ → ℕ) where
@@ -115,21 +76,9 @@ module _ (k : Table) (ok : Fit k) where
     pop_law c w r q qs i clear law = λ d h.
         elim (law d h) [
           | inl z ↦ inl (z.0, z.1.1)
-          | inr b ↦ elim (cases_lt d q.deadline) [
+          | inr (from, b) ↦ elim (cases_lt d q.deadline) [
             | inl far ↦ elim (clear d far) [ inl z ↦ inl (z.0, z.1.1) | inr e ↦ absurd (omega arith) ]
-            | inr due ↦ inr (record {
-              from = b.from;
-              past = b.past;
-              after = b.after;
-              room = omega (
-                arith,
-                b.room,
-                past_skip k st d (d - b.from) q qs due,
-                job_due k ran d q due,
-                next_demand d q.task q.deadline i.jobs.0.base,
-                tot_insert (of_waiting k d) waiting_before (next_of k q.task q.deadline) w,
-              );
-            })
+            | inr due ↦ inr (from, search (arith, nat_tests, next_demand d q.task q.deadline i.jobs.0.base, tot_insert (of_waiting k d) waiting_before (next_of k q.task q.deadline) w))
           ]
         ]
 
@@ -139,71 +88,46 @@ module _ (k : Table) (ok : Fit k) where
     push_law c w e es s i g law = λ d h.
         elim (cases_lt d e.deadline) [
           | inl far ↦ inl (
-            all_map (λ z. e.deadline ≤ z.deadline) (λ z. d < z.deadline) (λ z le. omega arith) es i.by_deadline.0,
-            (far, all_map (λ q. e.deadline < q.deadline) (λ q. d < q.deadline) (λ q lt. omega arith) s (above_all k ok s e g i.rising)),
+            (from_first (λ z. z.deadline) (suc d) e es i.by_deadline far).1,
+            from_lowest (λ p. p.deadline) (suc d) (begin e) s (push_shape k ok c w e es s i g).rising far,
           )
           | inr due ↦ elim (law d h) [
             | inl z ↦ absurd (omega (arith, z.0.0))
-            | inr b ↦ inr (record {
-              from = b.from;
-              past = b.past;
-              after = b.after.1;
-              room = omega (
-                arith,
-                b.room,
-                past_skip k st d (d - b.from) (begin e) s due,
-                job_due k ran d (begin e) due,
-                dem_some k ok d e.task e.deadline (known k c w (e ∷ es) s i).1.0 due,
-              );
-            })
+            | inr (from, b) ↦ inr (from, search (arith, nat_tests, dem_some k ok d e.task e.deadline (known k c w (e ∷ es) s i).1.0 due))
           ]
         ]
 
     -- the top job has other sections open
     module _ (c : ℕ) (w : List Waiting) (r : List Released) (q : Job) (qs : List Job) (i : Shape k c w r (q ∷ qs)) (law : Law k ran st c w r (q ∷ qs)) where
       reopened : (os : List Open)
-          → ((d : ℕ) → d < q.deadline → (b : Busy k ran st d c w r (q ∷ qs)) → Quiet d r (q ∷ qs) ⊎ (left_in k st (d - b.from) os ≤ left_in k st (d - b.from) q.opened))
+          → ((d from : ℕ) → d < q.deadline → Busy k ran st d c w r (q ∷ qs) from → Quiet d r (q ∷ qs) ⊎ (left_in k st (d - from) os ≤ left_in k st (d - from) q.opened))
           → Law k ran st c w r (with_open q os ∷ qs)
       reopened os less = λ d h.
           elim (law d h) [
             | inl z ↦ inl z
-            | inr b ↦ elim (cases_lt d q.deadline) [
-              | inl far ↦ elim (less d far b) [
-                | inl z ↦ inl z
-                | inr le ↦ inr (record {
-                  from = b.from;
-                  past = b.past;
-                  after = b.after;
-                  room = omega (arith, b.room, past_take k st d (d - b.from) q qs far, past_take k st d (d - b.from) (with_open q os) qs far);
-                })
-              ]
-              | inr due ↦ inr (record {
-                from = b.from;
-                past = b.past;
-                after = b.after;
-                room = omega (arith, b.room, past_skip k st d (d - b.from) q qs due, past_skip k st d (d - b.from) (with_open q os) qs due);
-              })
+            | inr (from, b) ↦ elim (cases_lt d q.deadline) [
+              | inl far ↦ elim (less d from far b) [ inl z ↦ inl z | inr le ↦ inr (from, search (arith, nat_tests)) ]
+              | inr due ↦ inr (from, search (arith, nat_tests))
             ]
           ]
 
       pub enter_law : (o : Open) → Settled k r (q ∷ qs) → Law k ran st c w r (with_open q (o ∷ q.opened) ∷ qs)
       enter_law o se =
           reopened (o ∷ q.opened)
-          (λ d far b. elim (blocked c d b.from r q qs far se i.readies i.by_deadline i.rising i.inward.0 b.after)
-          [ inl z ↦ inl z | inr lo ↦ inr (rw lo (omega arith)) ])
+          (λ d from far b. elim (blocked c d from w r q qs i se far b.after) [ inl z ↦ inl z | inr lo ↦ inr (rw lo (omega arith)) ])
 
       pub leave_law : (o : Open) (os : List Open) → q.opened ≡ o ∷ os → Law k ran st c w r (with_open q os ∷ qs)
-      leave_law o os e = reopened os (λ d far b. inr (rw e (left_closed k st (d - b.from) o os)))
+      leave_law o os e = reopened os (λ d from far b. inr (rw e (left_closed k st (d - from) o os)))
 
     past_bound : (d c : ℕ) (s : List Job) → c < d → AllByRecursion (λ q. d < q.deadline) s → AllByRecursion (JobOk k c) s → left_past k st d (d - c) s ≤ d - c - demand k.tasks (d - c)
     past_bound d c [] lt far js = omega arith
     past_bound d c (q ∷ qs) lt far js =
-        rw (past_take k st d (d - c) q qs far.0)
-        (left_bound k st (d - c) (d - c - demand k.tasks (d - c)) q.opened
+        let le = left_bound k st (d - c) (d - c - demand k.tasks (d - c)) q.opened
         (all_map (λ o. (o.section < length k.sections) × ((section_at k o.section).task ≡ q.task))
         (λ o. reaches (section_at k o.section).level (d - c) ≡ true → (section_at k o.section).length ≤ d - c - demand k.tasks (d - c))
         (λ o h low'. let past : d - c < relative k (section_at k o.section).task = rw h.1 (omega (arith, far.0, js.0.begun)) in
-        omega (arith, ok.fits_held (d - c) o.section (omega arith) h.0 low' past)) q.opened js.0.held))
+        omega (arith, ok.fits_held (d - c) o.section (omega arith) h.0 low' past)) q.opened js.0.held) in
+        grind (arith, nat_tests, far.0)
 
     -- the first waiting task is released
     pub release_law : (c : ℕ) (a : Waiting) (w : List Waiting) (r : List Released) (s : List Job) → Shape k c (a ∷ w) r s → a.release ≤ c
@@ -214,12 +138,14 @@ module _ (k : Table) (ok : Fit k) where
         let D-pos : 1 ≤ relative k a.task = omega (arith, ok.c_pos a.task kn.0.0, ok.c_d a.task kn.0.0) in
         let ti = tot_insert (of_released k d) released_before (release_of k a) r in
         elim (law d h) [
-          | inr b ↦ inr (record {
-            from = b.from;
-            past = b.past;
-            after = all_insert (λ e. e.deadline ≤ d → b.from + relative k e.task ≤ e.deadline) released_before (release_of k a) r (λ _. omega (arith, b.past)) b.after;
-            room = omega (arith, b.room);
-          })
+          | inr (from, b) ↦ inr (
+            from,
+            record {
+              past = b.past;
+              after = all_insert (λ e. e.deadline ≤ d → from + relative k e.task ≤ e.deadline) released_before (release_of k a) r (λ _. omega (arith, b.past)) b.after;
+              room = omega (arith, b.room);
+            },
+          )
           | inl z ↦ elim (cases_lt d (a.release + relative k a.task)) [
             | inl far ↦ inl (all_insert (λ e. d < e.deadline) released_before (release_of k a) r far z.0, z.1)
             | inr due ↦
@@ -229,13 +155,15 @@ module _ (k : Table) (ok : Fit k) where
                 let gr : tot (of_released k d) r ≤ tot (λ e. g e.task) r =
                 tot_le (of_released k d) (λ e. g e.task) r (all_map2 (λ e. d < e.deadline) (λ e. e.task < length k.tasks) _ (λ e x n. omega (arith, dem_none k ok d e.task e.deadline n x)) r z.0 kn.1) in
                 let gs : tot (of_job k ran d) s ≤ tot (λ q. g q.task) s =
-                tot_le (of_job k ran d) (λ q. g q.task) s (all_map2 (λ q. d < q.deadline) (λ q. q.task < length k.tasks) _ (λ q x n. omega (arith, job_not k ran d q x, dem_none k ok d q.task (q.deadline + period k q.task) n (omega arith))) s z.1 kn.2) in
+                tot_le (of_job k ran d) (λ q. g q.task) s (all_map2 (λ q. d < q.deadline) (λ q. q.task < length k.tasks) _ (λ q x n. grind (arith, nat_tests, dem_none k ok d q.task (q.deadline + period k q.task) n (omega arith))) s z.1 kn.2) in
                 let all_of : demand k.tasks (d - c) ≡ tot (λ (e : Waiting). g e.task) (first_releases 0 (length k.tasks)) = demand_is k (d - c) in
-                inr (record {
-                  from = c;
-                  past = omega arith;
-                  after = all_insert (λ e. e.deadline ≤ d → c + relative k e.task ≤ e.deadline) released_before (release_of k a) r (λ _. omega arith) (all_map (λ e. d < e.deadline) _ (λ e x y. absurd (omega arith)) r z.0);
-                  room = omega (arith, gw, gr, gs, i.once g, all_of, ti, ok.fits (d - c) (omega arith), past_bound d c s (omega arith) z.1 i.jobs);
-                })
+                inr (
+                  c,
+                  record {
+                    past = omega arith;
+                    after = all_insert (λ e. e.deadline ≤ d → c + relative k e.task ≤ e.deadline) released_before (release_of k a) r (λ _. omega arith) (all_map (λ e. d < e.deadline) _ (λ e x y. absurd (omega arith)) r z.0);
+                    room = omega (arith, gw, gr, gs, i.once g, all_of, ti, ok.fits (d - c) (omega arith), past_bound d c s (omega arith) z.1 i.jobs);
+                  },
+                )
           ]
         ]

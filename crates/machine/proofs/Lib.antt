@@ -7,7 +7,7 @@ pub mod Shape
 pub mod Moves
 pub mod Parts
 pub mod Ahead
-pub mod Acts
+pub mod Cases
 pub mod Shaped
 pub mod Orders
 pub mod Flow

@@ -1,7 +1,10 @@
 -- The run in which a job is blocked and another expires after just its C: it is computed, and what is said of every job or of every
 -- event is said of the few that occur.
-use Rattle.std.proofs.Common.{◌≡◌, ℕ, zero, suc, ◌+◌, ◌<◌, ◌≤◌, Bool, true, false, cond, not, ◌&&◌, ◌||◌, eqb, ltb, ◌⊎◌, List, [], ◌∷◌, Ok, sym, refl, subst, inl, inr, arith, lit<, lit≤}
-use Rattle.std.proofs.lemmas.Bool.{true≢false, cases_lt, and_parts, or_cases, not-true, ltb-false, eqb-true, eqb-false, ne_eqb}
+use Rattle.std.proofs.Common.{◌≡◌, ℕ, zero, suc, ◌+◌, ◌≤◌, Bool, true, not, ◌&&◌, ◌||◌, ◌⊎◌, List, [], ◌∷◌, Ok, sym, refl, subst, inl, inr, arith, lit<, lit≤, if◌then◌else◌, ◌==◌, nat_lt}
+use Rattle.std.proofs.lemmas.Bool.{cases_lt, not-true, ltb-false}
+use Rattle.std.proofs.lemmas.Bool.{agree_below, agree_below_at}
+use Rattle.std.proofs.lemmas.Bool.Decides.{nat_tests}
+use Rattle.std.specs.List.{AllByRecursion}
 use Rattle.table.specs.Judged.{judged as read}
 use Rattle.table.specs.Level.{letter_levels}
 use Rattle.admission.specs.Sound.{sound}
@@ -14,23 +17,13 @@ use Rattle.machine.specs.Worked.{Met, reads, tight, Blocks, tight_table, tight_c
 
 -- a test that holds of every number below n
 abbrev all_below : (ℕ → Bool) → ℕ → Bool
-all_below p zero = true
-all_below p (suc n) = p n && all_below p n
-
-at_each : (p : ℕ → Bool) (n : ℕ) → all_below p n ≡ true → (u : ℕ) → u < n → p u ≡ true
-at_each p zero e u h = absurd (omega arith)
-at_each p (suc n) e u h =
-    let both = and_parts (p n) (all_below p n) e in
-    elim (cases_lt u n) [
-      | inl lt ↦ at_each p n both.1 u lt
-      | inr ge ↦ (let same : n ≡ u = omega arith in subst (λ m. p m ≡ true) same both.0)
-    ]
+all_below p n = agree_below p (λ _. true) n
 
 abbrev fitting : ℕ → Bool
-fitting u = not (ltb u (asked tight_table.tasks tight_table.sections u))
+fitting u = not (nat_lt u (asked tight_table.tasks tight_table.sections u))
 
 abbrev busy : ℕ → Bool
-busy u = eqb u 0 || not (eqb (workload tight_table.tasks u) u)
+busy u = u == 0 || not (workload tight_table.tasks u == u)
 
 all_fit : all_below fitting 11 ≡ true
 unfolding letter_levels
@@ -50,15 +43,12 @@ admitted = record {
     positive = lit≤ tt;
     idle = refl;
     least = λ u p is. elim (cases_lt u 10) [
-      | inl lt ↦ elim (or_cases (eqb u 0) (not (eqb (workload tight_table.tasks u) u)) (at_each busy 10 all_busy u lt)) [
-        | inl z ↦ absurd (omega (arith, eqb-true u 0 z))
-        | inr b ↦ absurd (eqb-false (workload tight_table.tasks u) u (not-true (eqb (workload tight_table.tasks u) u) b) is)
-      ]
+      | inl lt ↦ (let b = agree_below_at busy (λ _. true) 10 u all_busy lt in grind (arith, nat_tests))
       | inr ge ↦ ge
     ];
   };
   within = lit≤ tt;
-  fits = λ t p h. ltb-false t (asked tight_table.tasks tight_table.sections t) (not-true _ (at_each fitting 11 all_fit t (omega arith)));
+  fits = λ t p h. ltb-false t (asked tight_table.tasks tight_table.sections t) (not-true _ (agree_below_at fitting (λ _. true) 11 t all_fit (omega arith)));
 }
 
 abbrev h : List Event
@@ -87,55 +77,29 @@ expired = inr (inr (inr (inr (inr (inr (inr (inr (inr (inr (inr (inl (tt, inr (i
 -- a job's run time here, by which task and which deadline it has
 abbrev sum : Bool → Bool → Bool → Bool → Bool → Bool → ℕ
 sum a b c p q r =
-    0 + (cond (a && p) 2 0 + (cond (a && p) 0 0 + (cond (b && r) 2 0 + (cond (b && r) 0 0 + (cond (b && r) 1 0 + (cond (b && r) 1 0
-    + (cond (b && r) 0 0 + (cond (a && q) 2 0 + (cond (a && q) 0 0 + (cond (b && r) 0 0 + (cond (c && r) 2 0 + 0)))))))))))
+    0 + ((if a && p then 2 else 0) + ((if a && p then 0 else 0) + ((if b && r then 2 else 0) + ((if b && r then 0 else 0) + ((if b && r then 1 else 0) + ((if b && r then 1 else 0)
+    + ((if b && r then 0 else 0) + ((if a && q then 2 else 0) + ((if a && q then 0 else 0) + ((if b && r then 0 else 0) + ((if c && r then 2 else 0) + 0)))))))))))
 
-hi : (p q r : Bool) → (p ≡ true → q ≡ true → ⊥) → sum true false false p q r ≤ 2
-hi true true r apart = absurd (apart refl refl)
-hi true false r apart = lit≤ tt
-hi false true r apart = lit≤ tt
-hi false false r apart = lit≤ tt
-
-lo : (p q r : Bool) → sum false true false p q r ≤ 4
-lo p q true = lit≤ tt
-lo p q false = lit≤ tt
-
-third : (p q r : Bool) → sum false false true p q r ≤ 2
-third p q true = lit≤ tt
-third p q false = lit≤ tt
-
-none : (a b c p q r : Bool) (n : ℕ) → a ≡ false → b ≡ false → c ≡ false → sum a b c p q r ≤ n
-none true b c p q r n x y z = absurd (true≢false x)
-none false true c p q r n x y z = absurd (true≢false y)
-none false false true p q r n x y z = absurd (true≢false z)
-none false false false p q r n x y z = omega arith
-
-is_sum : (i d : ℕ) → run_time i d h ≡ sum (eqb 0 i) (eqb 1 i) (eqb 2 i) (eqb 4 d) (eqb 9 d) (eqb 10 d)
+is_sum : (i d : ℕ) → run_time i d h ≡ sum (0 == i) (1 == i) (2 == i) (4 == d) (9 == d) (10 == d)
 unfolding step selected advanced letter_levels
 is_sum i d = refl
 
-bound : (i d : ℕ) → sum (eqb 0 i) (eqb 1 i) (eqb 2 i) (eqb 4 d) (eqb 9 d) (eqb 10 d) ≤ cost tight_table i
-bound zero d = hi (eqb 4 d) (eqb 9 d) (eqb 10 d) (λ x y. omega (arith, eqb-true 4 d x, eqb-true 9 d y))
-bound (suc zero) d = lo (eqb 4 d) (eqb 9 d) (eqb 10 d)
-bound (suc (suc zero)) d = third (eqb 4 d) (eqb 9 d) (eqb 10 d)
-bound (suc (suc (suc i))) d =
-    none (eqb 0 (suc (suc (suc i)))) (eqb 1 (suc (suc (suc i)))) (eqb 2 (suc (suc (suc i)))) (eqb 4 d) (eqb 9 d) (eqb 10 d) (cost tight_table (suc (suc (suc i))))
-    (ne_eqb 0 (suc (suc (suc i))) (λ e. omega arith)) (ne_eqb 1 (suc (suc (suc i))) (λ e. omega arith)) (ne_eqb 2 (suc (suc (suc i))) (λ e. omega arith))
+bound : (i d : ℕ) → sum (0 == i) (1 == i) (2 == i) (4 == d) (9 == d) (10 == d) ≤ cost tight_table i
+bound zero d = grind (arith, nat_tests)
+bound (suc zero) d = grind (arith, nat_tests)
+bound (suc (suc zero)) d = grind (arith, nat_tests)
+bound (suc (suc (suc i))) d = grind (arith, nat_tests)
 
 jobs : (i d : ℕ) → run_time i d h ≤ cost tight_table i
 jobs i d = subst (λ n. n ≤ cost tight_table i) (sym (is_sum i d)) (bound i d)
 
 -- what holds of each event of a list holds of one that is among them
-abbrev Each : (Event → Type 0) → List Event → Type 0
-Each P [] = Unit {0}
-Each P (e ∷ es) = P e × Each P es
-
-each : (P : Event → Type 0) (es : List Event) → Each P es → (e : Event) → Somewhere (λ x. x ≡ e) es → P e
+each : (P : Event → Type 0) (es : List Event) → AllByRecursion P es → (e : Event) → Somewhere (λ x. x ≡ e) es → P e
 each P [] all e s = absurd s
 each P (x ∷ xs) all e (inl is) = subst P is all.0
 each P (x ∷ xs) all e (inr s) = each P xs all.1 e s
 
-fitted : Each (λ x. GrantFits tight_table h x.answer) h
+fitted : AllByRecursion (λ x. GrantFits tight_table h x.answer) h
 unfolding step selected advanced letter_levels
 fitted = (tt, (tt, (tt, (tt, (lit≤ tt, (tt, (tt, (tt, (tt, (tt, (tt, (tt, tt))))))))))))
 

@@ -1,8 +1,7 @@
 -- The order of the stack, and who owns what, of every state that a run reaches.
-use Rattle.std.proofs.Common.{◌≡◌, ℕ, zero, suc, ◌<◌, ◌≤◌, true, ltb, List, [], ◌∷◌, map, length, get_or, Some, None, Option, refl, inl, inr, arith}
+use Rattle.std.proofs.Common.{◌≡◌, ℕ, zero, suc, ◌<◌, ◌≤◌, true, List, [], ◌∷◌, length, get_or, Some, None, Option, inl, inr, arith}
 use Rattle.std.specs.List.{AllByRecursion}
-use Rattle.std.proofs.lemmas.Bool.{and_cases, both_ways, lt-ltb, ltb-false, leb-true, eq-eqb, or_left, or_right, false≢true}
-use Rattle.std.proofs.lemmas.List.{length-map}
+use Rattle.std.proofs.lemmas.Bool.Decides.{nat_tests}
 use Rattle.table.specs.declared.records.TaskRecord.{TaskRecord}
 use Rattle.table.specs.Level.{names}
 use Rattle.queue.specs.declared.waiting.Waiting.{Waiting}
@@ -17,7 +16,7 @@ use Rattle.machine.proofs.Lists.{Rising, all_map, all_map2}
 use Rattle.machine.proofs.Tables.{Fit, fit_if_admitted}
 use Rattle.machine.proofs.Levels.{level_low}
 use Rattle.machine.proofs.Different.{rising_among}
-use Rattle.machine.proofs.Shape.{Shape, Settled, Nested, JobOk, lowered_le, or_lower_le, known}
+use Rattle.machine.proofs.Shape.{Shape, Settled, Nested, JobOk, lowered_le, or_lower_le, held_back, known}
 use Rattle.machine.proofs.Shaped.{Shaped, reached_shaped}
 
 abbrev Mine : Table → ℕ → Open → Type 0
@@ -25,11 +24,11 @@ Mine k i o = (o.section < length k.sections) × ((section_at k o.section).task �
 
 -- a level that is at most n lowers what is inherited to at most n
 lower_reach : (m n : ℕ) (o : Option ℕ) → reaches o n ≡ true → or_lower m o ≤ n
-lower_reach m n None e = absurd (false≢true e)
-lower_reach m n (Some l) e = omega (arith, leb-true l n e)
+lower_reach m n None e = grind arith
+lower_reach m n (Some l) e = grind (arith, nat_tests)
 
 module _ (k : Table) where
-  pub stacked_from : (s : List Job) → Rising (λ q. q.deadline) s → Nested k s → Stacked k s
+  stacked_from : (s : List Job) → Rising (λ q. q.deadline) s → Nested k s → Stacked k s
   stacked_from [] ri ne = tt
   stacked_from (j ∷ []) ri ne = tt
   stacked_from (j ∷ (l ∷ ls)) ri ne = (ri.0.0, ne.0.0, stacked_from (l ∷ ls) ri.1 ne.1)
@@ -54,40 +53,28 @@ module _ (k : Table) where
 
   deadlines_among : (ts : List TaskRecord) (i : ℕ) (t : TaskRecord) → i < length ts → among (get_or ts i t).deadline (deadlines ts) ≡ true
   deadlines_among [] i t h = absurd (omega arith)
-  deadlines_among (t ∷ ts) zero d h = or_left _ _ (eq-eqb t.deadline t.deadline refl)
-  deadlines_among (t ∷ ts) (suc i) d h = or_right _ _ (deadlines_among ts i d (omega arith))
+  deadlines_among (t ∷ ts) zero d h = grind (arith, nat_tests)
+  deadlines_among (t ∷ ts) (suc i) d h = let ih = deadlines_among ts i d (omega arith) in grind arith
 
-  -- the D's of the stack
-  relatives : List Job → List ℕ
-  relatives s = map (λ (q : Job). relative k q.task) s
+  -- the D's of the stack rise
+  nested_rising : (s : List Job) → Nested k s → Rising (λ q. relative k q.task) s
+  nested_rising [] ne = tt
+  nested_rising (q ∷ qs) ne = (
+    all_map (λ l. relative k q.task < inherited k l) (λ l. relative k q.task < relative k l.task) (λ l lt. omega (arith, lt, lowered_le k (relative k l.task) l.opened)) qs ne.0,
+    nested_rising qs ne.1,
+  )
 
-  relatives_above : (n : ℕ) (s : List Job) → AllByRecursion (λ l. n < inherited k l) s → AllByRecursion (λ m. n < m) (relatives s)
-  unfolding relatives
-  relatives_above n [] a = tt
-  relatives_above n (q ∷ qs) a = (omega (arith, a.0, lowered_le k (relative k q.task) q.opened), relatives_above n qs a.1)
+  shallow_from : (s : List Job) → AllByRecursion (λ q. q.task < length k.tasks) s → Nested k s → length s ≤ different (deadlines k.tasks)
+  shallow_from s kn ne =
+      rising_among (λ (q : Job). relative k q.task) (deadlines k.tasks) s (nested_rising s ne)
+      (all_map (λ q. q.task < length k.tasks) (λ q. among (relative k q.task) (deadlines k.tasks) ≡ true) (λ q lt. deadlines_among k.tasks q.task _ lt) s kn)
 
-  relatives_rising : (s : List Job) → Nested k s → Rising (λ n. n) (relatives s)
-  unfolding relatives
-  relatives_rising [] ne = tt
-  relatives_rising (q ∷ qs) ne = (relatives_above (relative k q.task) qs ne.0, relatives_rising qs ne.1)
-
-  relatives_among : (s : List Job) → AllByRecursion (λ q. q.task < length k.tasks) s → AllByRecursion (λ n. among n (deadlines k.tasks) ≡ true) (relatives s)
-  unfolding relatives
-  relatives_among [] a = tt
-  relatives_among (q ∷ qs) a = (deadlines_among k.tasks q.task _ a.0, relatives_among qs a.1)
-
-  pub shallow_from : (s : List Job) → AllByRecursion (λ q. q.task < length k.tasks) s → Nested k s → length s ≤ different (deadlines k.tasks)
-  unfolding relatives
-  shallow_from s kn ne = omega (arith, length-map s (λ (q : Job). relative k q.task), rising_among (deadlines k.tasks) (relatives s) (relatives_rising s ne) (relatives_among s kn))
-
-  pub held_from : (c : ℕ) (w : List Waiting) (r : List Released) (s : List Job) → Shape k c w r s → Settled k r s → Held k r s
+  held_from : (c : ℕ) (w : List Waiting) (r : List Released) (s : List Job) → Shape k c w r s → Settled k r s → Held k r s
   held_from c w [] s i st = tt
   held_from c w (e ∷ es) [] i st = tt
   held_from c w (e ∷ es) (j ∷ js) i st = λ lt.
       let own = i.readies.0.own in
-      let no : inherited k j ≤ e.relative =
-      elim (and_cases (ltb e.deadline j.deadline) (ltb e.relative (inherited k j)) st)
-      [ inl f ↦ absurd (both_ways _ f (lt-ltb _ _ lt)) | inr f ↦ ltb-false e.relative (inherited k j) f ] in
+      let no' = held_back k e j js st lt in
       let in' : relative k e.task < relative k j.task = i.inward.0.0 lt in
       (omega arith, all_map (λ l. relative k j.task < inherited k l) (λ l. relative k e.task < inherited k l) (λ l h. omega arith) js i.nested.0)
 
@@ -95,7 +82,7 @@ module _ (k : Table) where
     ok : Fit k
     ok = fit_if_admitted k idle ad
 
-    pub one_owner_from : (c : ℕ) (s : List Job) → AllByRecursion (JobOk k c) s → Nested k s → OneOwner k s
+    one_owner_from : (c : ℕ) (s : List Job) → AllByRecursion (JobOk k c) s → Nested k s → OneOwner k s
     one_owner_from c [] js ne = tt
     one_owner_from c (j ∷ ls) js ne = (
       (λ r lt has.
@@ -108,7 +95,7 @@ module _ (k : Table) where
       one_owner_from c ls js.1 ne.1,
     )
 
-    pub order_from : (s : State) → Shaped k s → Order k s
+    order_from : (s : State) → Shaped k s → Order k s
     order_from s h =
         let i = h.shape in
         record {

@@ -1,14 +1,13 @@
 -- The shape of a state: what holds of clock, lists and stack whatever the jobs do with their time.
-use Rattle.std.proofs.Common.{◌≡◌, ℕ, zero, suc, ◌+◌, ◌<◌, ◌≤◌, false, cond, ltb, List, [], ◌∷◌, length, Some, None, Option, arith}
+use Rattle.std.proofs.Common.{◌≡◌, ℕ, zero, suc, ◌+◌, ◌<◌, ◌≤◌, false, List, [], ◌∷◌, length, Some, None, Option, refl, arith, if◌then◌else◌, nat_lt}
 use Rattle.std.specs.List.{AllByRecursion}
-use Rattle.std.proofs.lemmas.Bool.{cond-true, lt-ltb}
 use Rattle.std.proofs.lemmas.Bool.Decides.{nat_tests}
 use Rattle.queue.specs.declared.waiting.Waiting.{Waiting}
 use Rattle.queue.specs.declared.released.Released.{Released}
 use Rattle.queue.specs.Entries.{waiting_before, released_before}
 use Rattle.machine.specs.State.{Table, Open, Job, relative, section_at, or_lower, lowered, inherited, first_releases}
 use Rattle.machine.specs.Step.{goes}
-use Rattle.machine.proofs.Lists.{tot, Sorted, Rising, By, tot_none, none_tot, all_map}
+use Rattle.machine.proofs.Lists.{tot, Sorted, Rising, By, none_tot, all_map}
 
 -- a released entry: its D is its task's, and the clock is between its release and its deadline
 pub record EntryOk (k : Table) (c : ℕ) (e : Released) : Type 0 where
@@ -33,6 +32,10 @@ Nested k (j ∷ ls) = AllByRecursion (λ l. relative k j.task < inherited k l) l
 abbrev pub Inward : Table → List Released → Job → Type 0
 Inward k r q = AllByRecursion (λ e. e.deadline < q.deadline → relative k e.task < relative k q.task) r
 
+-- each task of the table is in one of the lists: whatever is summed up over the lists is the sum over the table
+abbrev pub Once : Table → List Waiting → List Released → List Job → Type 0
+Once k w r s = (g : ℕ → ℕ) → tot (λ a. g a.task) w + tot (λ e. g e.task) r + tot (λ q. g q.task) s ≡ tot (λ (a : Waiting). g a.task) (first_releases 0 (length k.tasks))
+
 pub record Shape (k : Table) (c : ℕ) (w : List Waiting) (r : List Released) (s : List Job) : Type 0 where
   pub waits : AllByRecursion (λ a. c ≤ a.release) w
   pub by_release : Sorted (λ a. a.release) w
@@ -42,16 +45,12 @@ pub record Shape (k : Table) (c : ℕ) (w : List Waiting) (r : List Released) (s
   pub rising : Rising (λ q. q.deadline) s
   pub nested : Nested k s
   pub inward : AllByRecursion (Inward k r) s
-  pub once : (g : ℕ → ℕ) → tot (λ a. g a.task) w + tot (λ e. g e.task) r + tot (λ q. g q.task) s ≡ tot (λ (a : Waiting). g a.task) (first_releases 0 (length k.tasks))
+  pub once : Once k w r s
 
 -- between calls: the first released task may not be pushed
 abbrev pub Settled : Table → List Released → List Job → Type 0
 Settled k [] s = Unit {0}
 Settled k (e ∷ es) s = goes k e s ≡ false
-
-firsts_below : (m n i : ℕ) → i + n ≤ m → AllByRecursion (λ (a : Waiting). a.task < m) (first_releases i n)
-firsts_below m zero i h = tt
-firsts_below m (suc n) i h = (omega arith, firsts_below m n (i + 1) (omega arith))
 
 -- an inherited deadline is at most the D
 pub or_lower_le : (n : ℕ) (o : Option ℕ) → or_lower n o ≤ n
@@ -62,28 +61,32 @@ pub lowered_le : (k : Table) (d : ℕ) (os : List Open) → lowered k d os ≤ d
 lowered_le k d [] = omega arith
 lowered_le k d (o ∷ os) = omega (arith, lowered_le k d os, or_lower_le (lowered k d os) (section_at k o.section).level)
 
+-- where the first released task may not be pushed, its D is at least what a less urgent running task inherits
+pub held_back : (k : Table) (e : Released) (q : Job) (qs : List Job) → goes k e (q ∷ qs) ≡ false → e.deadline < q.deadline → inherited k q ≤ e.relative
+held_back k e q qs st lt = grind (arith, nat_tests)
+
 module _ (k : Table) where
-  -- each task in the lists is one of the table's
+  -- each task in the lists is one of the table's: 1 for each number past them sums up to 0
   past : ℕ → ℕ
-  past i = cond (ltb i (length k.tasks)) 0 1
+  past i = if nat_lt i (length k.tasks) then 0 else 1
 
-  past_none : (i : ℕ) → i < length k.tasks → past i ≡ 0
+  within : (i : ℕ) → past i ≡ 0 → i < length k.tasks
   unfolding past
-  past_none i h = cond-true _ _ _ (lt-ltb _ _ h)
+  within i e = grind (arith, nat_tests)
 
-  none_past : (i : ℕ) → past i ≡ 0 → i < length k.tasks
+  none_past : (n i : ℕ) → i + n ≤ length k.tasks → tot (λ (a : Waiting). past a.task) (first_releases i n) ≡ 0
   unfolding past
-  none_past i e = grind (arith, nat_tests)
+  none_past zero i h = refl
+  none_past (suc n) i h = let ih = none_past n (i + 1) (omega arith) in grind (arith, nat_tests)
 
   pub known : (c : ℕ) (w : List Waiting) (r : List Released) (s : List Job) → Shape k c w r s
       → AllByRecursion (λ a. a.task < length k.tasks) w × AllByRecursion (λ e. e.task < length k.tasks) r × AllByRecursion (λ q. q.task < length k.tasks) s
   known c w r s i =
-      let z : tot (λ (a : Waiting). past a.task) (first_releases 0 (length k.tasks)) ≡ 0 =
-      tot_none _ _ (all_map (λ a. a.task < length k.tasks) _ (λ a h. past_none a.task h) _ (firsts_below (length k.tasks) (length k.tasks) 0 (omega arith))) in
+      let z = none_past (length k.tasks) 0 (omega arith) in
       let o = i.once past in (
-        all_map _ _ (λ a e. none_past a.task e) w (none_tot (λ a. past a.task) w (omega arith)),
-        all_map _ _ (λ a e. none_past a.task e) r (none_tot (λ a. past a.task) r (omega arith)),
-        all_map _ _ (λ q e. none_past q.task e) s (none_tot (λ q. past q.task) s (omega arith)),
+        all_map _ _ (λ a e. within a.task e) w (none_tot (λ a. past a.task) w (omega arith)),
+        all_map _ _ (λ a e. within a.task e) r (none_tot (λ a. past a.task) r (omega arith)),
+        all_map _ _ (λ q e. within q.task e) s (none_tot (λ q. past q.task) s (omega arith)),
       )
 
 pub by_waiting : By waiting_before (λ a. a.release)

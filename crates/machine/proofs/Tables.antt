@@ -1,9 +1,9 @@
 -- What admission gives to the machine: the times of each task, the owner of each section, and that what is asked for fits at every instant.
-use Rattle.std.proofs.Common.{◌≡◌, ℕ, zero, suc, ◌+◌, ◌<◌, ◌≤◌, true, List, [], ◌∷◌, length, get_or, drop, Some, ap, ◌∙◌, inl, inr, arith}
+use Rattle.std.proofs.Common.{◌≡◌, ℕ, zero, suc, ◌+◌, ◌<◌, ◌≤◌, true, List, [], ◌∷◌, length, get_or, drop, Some, ap, ◌∙◌, arith}
 use Rattle.std.specs.Option.{option_map}
-use Rattle.std.proofs.lemmas.Bool.{and_from, cond-true, lt-ltb, cases_lt}
-use Rattle.std.proofs.ByRecursion.{All-get_or}
-use Rattle.std.proofs.lemmas.Option.{slice_get-get_or, slice_get_past}
+use Rattle.std.proofs.lemmas.Bool.Decides.{nat_tests}
+use Rattle.std.proofs.lemmas.List.Elements.{All-from_recursion}
+use Rattle.std.proofs.lemmas.Option.{slice_get-get_or, slice_get_within}
 use Rattle.std.proofs.lemmas.List.{drop_all}
 use Rattle.table.specs.declared.records.TaskRecord.{TaskRecord}
 use Rattle.table.specs.declared.records.SectionRecord.{SectionRecord}
@@ -33,26 +33,18 @@ blocking_least :
     (ts : List TaskRecord) (t : ℕ) (d : SectionRecord) (ss : List SectionRecord) (x : ℕ) → x < length ss → blocks ts (get_or ss x d) t ≡ true
     → (get_or ss x d).length ≤ blocking ts ss t
 blocking_least ts t d [] x h b = omega arith
-blocking_least ts t d (s ∷ ss) zero h b = let e = cond-true (blocks ts s t) s.length 0 b in omega arith
+blocking_least ts t d (s ∷ ss) zero h b = grind arith
 blocking_least ts t d (s ∷ ss) (suc x) h b = omega (arith, blocking_least ts t d ss x (omega arith) b)
 
 module _ (k : Table) (j : Judgeable k.tasks k.sections) where
   timed_at : (i : ℕ) → i < length k.tasks → Timed (task_at k i)
-  timed_at i h = All-get_or Timed k.tasks i _ h j.timed
+  timed_at i h = All-from_recursion Timed k.tasks j.timed i _ h
 
   owned_at : (x : ℕ) → x < length k.sections → Owned k.tasks (section_at k x)
-  owned_at x h = All-get_or (Owned k.tasks) k.sections x _ h j.owned
+  owned_at x h = All-from_recursion (Owned k.tasks) k.sections j.owned x _ h
 
   known_owner : (x : ℕ) → x < length k.sections → (section_at k x).task < length k.tasks
-  known_owner x h =
-      elim (cases_lt (section_at k x).task (length k.tasks)) [
-        | inl lt ↦ lt
-        | inr ge ↦
-            let none = slice_get_past k.tasks (section_at k x).task ge in
-            let some = (owned_at x h).found in
-            let z : ◌≡◌ {A = ℕ} 0 1 = cc in
-            omega arith
-      ]
+  known_owner x h = slice_get_within k.tasks (section_at k x).task _ (owned_at x h).found
 
 -- the D of a task of the table, as levels have it
 pub deadline_at_lem : (k : Table) (i : ℕ) → i < length k.tasks → deadline_of k.tasks i ≡ Some (relative k i)
@@ -70,7 +62,7 @@ fit_if_admitted k idle ad =
       fits = λ t h. omega (arith, ever t h);
       fits_held = λ t x h lt low far.
           let dl = deadline_at_lem k (section_at k x).task (known_owner k j x lt) in
-          let b : blocks k.tasks (section_at k x) t ≡ true = and_from _ _ low (rw dl (lt-ltb t _ far)) in
+          let b : blocks k.tasks (section_at k x) t ≡ true = grind (arith, nat_tests) in
           omega (arith, ever t h, blocking_least k.tasks t _ k.sections x lt b);
     }
 

@@ -1,7 +1,7 @@
 -- The worked examples from text to verdict: each is computed. The walk over the instants has fuel for a million of them, so it is not
 -- computed as it stands: it is taken over the instants at which it does not stop, which a small test tells, to the one at which it does.
-use Rattle.std.proofs.Common.{◌≡◌, ℕ, zero, suc, ◌+◌, Bool, true, false, cond, not, ◌&&◌, eqb, ltb, List, Ok, Err, Result, refl, ap, ◌∙◌}
-use Rattle.std.proofs.lemmas.Bool.{cond-true, cond-false, cond_both, and_parts, not-true, both_ways}
+use Rattle.std.proofs.Common.{◌≡◌, ℕ, zero, suc, ◌+◌, Bool, true, false, not, ◌&&◌, List, Ok, Err, Result, refl, ap, ◌∙◌, arith, ◌==◌, nat_lt}
+use Rattle.std.proofs.lemmas.Bool.{cond-true, and_parts}
 use Rattle.table.specs.declared.records.TaskRecord.{TaskRecord}
 use Rattle.table.specs.declared.records.SectionRecord.{SectionRecord}
 use Rattle.table.specs.Judged.{judged as read}
@@ -26,24 +26,14 @@ onward (suc n) t = onward n (t + 1)
 module _ (tasks : List TaskRecord) (sections : List SectionRecord) where
   -- the walk does not stop at this instant, nor at so many from one on
   abbrev passes : ℕ → Bool
-  passes t = not (ltb t (asked tasks sections t)) && not (eqb (workload tasks t) t)
+  passes t = not (nat_lt t (asked tasks sections t)) && not (workload tasks t == t)
 
   abbrev quiet : ℕ → ℕ → Bool
   quiet zero t = true
   quiet (suc n) t = passes t && quiet n (t + 1)
 
-  -- everything fits by t, and t is idle or the walk goes on; or it does not fit
-  under : (left t : ℕ) → ltb t (asked tasks sections t) ≡ false → judged_from tasks sections (suc left) t ≡ cond (eqb (workload tasks t) t) (Ok t) (judged_from tasks sections left (t + 1))
-  under left t e = cond-false (ltb t (asked tasks sections t)) (Err (Demand t (asked tasks sections t))) _ e
-
-  over : (left t : ℕ) → ltb t (asked tasks sections t) ≡ true → judged_from tasks sections (suc left) t ≡ Err (Demand t (asked tasks sections t))
-  over left t e = cond-true (ltb t (asked tasks sections t)) (Err (Demand t (asked tasks sections t))) (cond (eqb (workload tasks t) t) (Ok t) (judged_from tasks sections left (t + 1))) e
-
   one : (left t : ℕ) → passes t ≡ true → judged_from tasks sections (suc left) t ≡ judged_from tasks sections left (t + 1)
-  one left t e =
-      let p = and_parts (not (ltb t (asked tasks sections t))) (not (eqb (workload tasks t) t)) e in
-      under left t (not-true (ltb t (asked tasks sections t)) p.0)
-      ∙ cond-false (eqb (workload tasks t) t) (Ok t) _ (not-true (eqb (workload tasks t) t) p.1)
+  one left t e = grind arith
 
   many : (n left t : ℕ) → quiet n t ≡ true → judged_from tasks sections (above n left) t ≡ judged_from tasks sections left (onward n t)
   many zero left t e = refl
@@ -51,26 +41,19 @@ module _ (tasks : List TaskRecord) (sections : List SectionRecord) where
       let p = and_parts (passes t) (quiet n (t + 1)) e in
       one (above n left) t p.0 ∙ many n left (t + 1) p.1
 
-  -- a walk of any fuel, to where it stops
-  walked : (fuel n left : ℕ) (r : Result ℕ Refusal) → fuel ≡ above n (suc left) → quiet n 1 ≡ true → judged_from tasks sections (suc left) (onward n 1) ≡ r → judged_from tasks sections fuel 1 ≡ r
-  walked fuel n left r e q last = ap (λ m. judged_from tasks sections m 1) e ∙ many n (suc left) 1 q ∙ last
-
-  from_walk : (r : Result ℕ Refusal) → sound tasks sections ≡ true → judged_from tasks sections horizon 1 ≡ r → judged tasks sections ≡ r
+  -- the walk, to where it stops
+  stops_at : (n left t : ℕ) (r : Result ℕ Refusal) → horizon ≡ above n (suc left) → onward n 1 ≡ t → sound tasks sections ≡ true → quiet n 1 ≡ true
+      → judged_from tasks sections (suc left) t ≡ r → judged tasks sections ≡ r
   unfolding judged
-  from_walk r is w =
-      cond_both (sound tasks sections) (judged_from tasks sections horizon 1) (Err Records) (λ z. z ≡ r) (λ _. w) (λ not_so. absurd (both_ways _ not_so is))
+  stops_at n left t r e at is q last =
+      cond-true (sound tasks sections) (judged_from tasks sections horizon 1) (Err Records) is
+      ∙ ap (λ m. judged_from tasks sections m 1) e ∙ many n (suc left) 1 q ∙ ap (judged_from tasks sections (suc left)) at ∙ last
 
-  idle_at : (n left t : ℕ) → horizon ≡ above n (suc left) → onward n 1 ≡ t → sound tasks sections ≡ true → quiet n 1 ≡ true → ltb t (asked tasks sections t) ≡ false → eqb (workload tasks t) t ≡ true → judged tasks sections ≡ Ok t
-  idle_at n left t e at is q fits idle =
-      from_walk (Ok t) is
-      (walked horizon n left (Ok t) e q
-      (ap (judged_from tasks sections (suc left)) at ∙ under left t fits ∙ cond-true (eqb (workload tasks t) t) (Ok t) (judged_from tasks sections left (t + 1)) idle))
+  idle_at : (n left t : ℕ) → horizon ≡ above n (suc left) → onward n 1 ≡ t → sound tasks sections ≡ true → quiet n 1 ≡ true → nat_lt t (asked tasks sections t) ≡ false → (workload tasks t == t) ≡ true → judged tasks sections ≡ Ok t
+  idle_at n left t e at is q fits idle = stops_at n left t (Ok t) e at is q (grind arith)
 
-  over_at : (n left t all : ℕ) → horizon ≡ above n (suc left) → onward n 1 ≡ t → sound tasks sections ≡ true → quiet n 1 ≡ true → ltb t (asked tasks sections t) ≡ true → asked tasks sections t ≡ all → judged tasks sections ≡ Err (Demand t all)
-  over_at n left t all e at is q more so =
-      from_walk (Err (Demand t all)) is
-      (walked horizon n left (Err (Demand t all)) e q
-      (ap (judged_from tasks sections (suc left)) at ∙ over left t more ∙ ap (λ m. Err (Demand t m)) so))
+  over_at : (n left t all : ℕ) → horizon ≡ above n (suc left) → onward n 1 ≡ t → sound tasks sections ≡ true → quiet n 1 ≡ true → nat_lt t (asked tasks sections t) ≡ true → asked tasks sections t ≡ all → judged tasks sections ≡ Err (Demand t all)
+  over_at n left t all e at is q more so = stops_at n left t (Err (Demand t all)) e at is q (grind arith)
 
 pub verdicts : Verdicts
 unfolding read letter_levels sound

@@ -1,5 +1,5 @@
 -- What holds of every run of an admitted table, at the start and after each call.
-use Rattle.std.specs.Prelude.{◌≡◌, ℕ, ◌+◌, ◌-◌, ◌<◌, ◌≤◌, Bool, true, false, cond, ◌||◌, ◌⊎◌, List, [], ◌∷◌, length, ◌==◌}
+use Rattle.std.specs.Prelude.{◌≡◌, ℕ, ◌+◌, ◌-◌, ◌<◌, ◌≤◌, Bool, true, false, if◌then◌else◌, ◌||◌, ◌⊎◌, List, [], ◌∷◌, length, ◌==◌}
 use Rattle.std.specs.List.{AllByRecursion}
 use Rattle.table.specs.declared.records.TaskRecord.{TaskRecord}
 use Rattle.table.specs.Limits.{resources}
@@ -9,6 +9,7 @@ use Rattle.queue.specs.declared.released.Released.{Released}
 use Rattle.admission.specs.Verdict.{Admitted}
 use Rattle.machine.specs.declared.call.Call.{Call}
 use Rattle.machine.specs.declared.call.Answer.{Answer}
+use Rattle.machine.specs.declared.call.Refusal.{Refusal}
 use Rattle.machine.specs.declared.call.Answer.TheVariants.{Advanced, Granted, Running, Refused}
 use Rattle.machine.specs.declared.call.Call.TheVariants.{Advance, Enter, Leave, Finish}
 use Rattle.machine.specs.State.{Table, Open, Job, State, relative, cost, section_at, inherited}
@@ -41,7 +42,7 @@ among x (y ∷ ys) = x == y || among x ys
 
 abbrev pub different : List ℕ → ℕ
 different [] = 0
-different (x ∷ xs) = cond (among x xs) (different xs) (1 + different xs)
+different (x ∷ xs) = if among x xs then different xs else 1 + different xs
 
 abbrev pub deadlines : List TaskRecord → List ℕ
 deadlines [] = []
@@ -57,15 +58,15 @@ Held k (e ∷ es) (j ∷ js) =
 -- how often a task stands in each of the three places
 abbrev pub waits : ℕ → List Waiting → ℕ
 waits i [] = 0
-waits i (w ∷ ws) = cond (w.task == i) 1 0 + waits i ws
+waits i (w ∷ ws) = (if w.task == i then 1 else 0) + waits i ws
 
 abbrev pub is_out : ℕ → List Released → ℕ
 is_out i [] = 0
-is_out i (e ∷ es) = cond (e.task == i) 1 0 + is_out i es
+is_out i (e ∷ es) = (if e.task == i then 1 else 0) + is_out i es
 
 abbrev pub stands : ℕ → List Job → ℕ
 stands i [] = 0
-stands i (j ∷ js) = cond (j.task == i) 1 0 + stands i js
+stands i (j ∷ js) = (if j.task == i then 1 else 0) + stands i js
 
 -- how many sections are open
 abbrev pub open_count : List Job → ℕ
@@ -74,17 +75,17 @@ open_count (j ∷ js) = length j.opened + open_count js
 
 -- what a call adds to each count, by what it answered
 abbrev pub releases_of : Event → ℕ
-releases_of e = elim e.answer [ Advanced x r i ↦ r | Granted g ↦ 0 | Running i ↦ 0 | Refused r ↦ 0 ]
+releases_of e = elim e.answer [ Advanced (x, r, i) ↦ r | Granted g ↦ 0 | Running i ↦ 0 | Refused r ↦ 0 ]
 
 abbrev pub expiries_of : Event → ℕ
-expiries_of e = elim e.answer [ Advanced x r i ↦ x | Granted g ↦ 0 | Running i ↦ 0 | Refused r ↦ 0 ]
+expiries_of e = elim e.answer [ Advanced (x, r, i) ↦ x | Granted g ↦ 0 | Running i ↦ 0 | Refused r ↦ 0 ]
 
 abbrev pub entries_of : Event → ℕ
-entries_of e = elim e.answer [ Advanced x r i ↦ 0 | Granted g ↦ 1 | Running i ↦ 0 | Refused r ↦ 0 ]
+entries_of e = elim e.answer [ Advanced (x, r, i) ↦ 0 | Granted g ↦ 1 | Running i ↦ 0 | Refused r ↦ 0 ]
 
 -- an accepted call of this kind
-abbrev pub accepted : Answer → ℕ
-accepted (Advanced x r i) = 1
+abbrev pub accepted : Answer Refusal → ℕ
+accepted (Advanced (x, r, i)) = 1
 accepted (Granted g) = 1
 accepted (Running i) = 1
 accepted (Refused r) = 0

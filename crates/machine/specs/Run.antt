@@ -1,9 +1,10 @@
 -- A run: any list of calls from the start, accepted or refused, and its history, what each call found, answered and left. Run times, stays,
 -- ended grants and expired jobs are read off the history; the machine keeps none of them. `Promise` goes on with what holds of every run.
-use Rattle.std.specs.Prelude.{◌≡◌, ℕ, ◌+◌, ◌-◌, ◌≤◌, Bool, false, cond, ◌&&◌, ◌||◌, ◌⊎◌, List, [], ◌∷◌, ◌==◌}
+use Rattle.std.specs.Prelude.{◌≡◌, ℕ, ◌+◌, ◌-◌, ◌≤◌, Bool, false, if◌then◌else◌, ◌&&◌, ◌||◌, ◌⊎◌, List, [], ◌∷◌, ◌==◌}
 use Rattle.queue.specs.declared.released.Released.{Released}
 use Rattle.machine.specs.declared.call.Call.{Call}
 use Rattle.machine.specs.declared.call.Answer.{Answer}
+use Rattle.machine.specs.declared.call.Refusal.{Refusal}
 use Rattle.machine.specs.declared.call.Answer.TheVariants.{Advanced, Granted, Running, Refused}
 use Rattle.machine.specs.State.{Table, Open, Job, State, start, cost, section_at}
 use Rattle.machine.specs.Step.{step}
@@ -12,7 +13,7 @@ use Rattle.machine.specs.Step.{step}
 pub record Event : Type 0 where
   pub before : State
   pub call : Call
-  pub answer : Answer
+  pub answer : Answer Refusal
   pub after : State
 
 -- the history of calls from a state, the first call first
@@ -49,7 +50,7 @@ runs i d (j ∷ js) = j.task == i && j.deadline == d
 
 -- a job's run time: the clock's movement over the calls at whose start it ran
 abbrev pub run_time : ℕ → ℕ → List Event → ℕ
-run_time i d h = total (λ e. cond (runs i d e.before.stack) (moved e) 0) h
+run_time i d h = total (λ e. if runs i d e.before.stack then moved e else 0) h
 
 -- whether an entry is among open sections, by its serial
 abbrev pub holds : ℕ → List Open → Bool
@@ -63,7 +64,7 @@ stays_in n (j ∷ js) = holds n j.opened
 
 -- a stay: the clock's movement over the calls at whose start the job ran that had the entry open
 abbrev pub stay : ℕ → List Event → ℕ
-stay n h = total (λ e. cond (stays_in n e.before.stack) (moved e) 0) h
+stay n h = total (λ e. if stays_in n e.before.stack then moved e else 0) h
 
 -- whether an entry is open in any job
 abbrev pub is_open : ℕ → List Job → Bool
@@ -71,9 +72,9 @@ is_open n [] = false
 is_open n (j ∷ js) = holds n j.opened || is_open n js
 
 -- how often a grant with a serial was given
-abbrev pub gives : ℕ → Answer → ℕ
-gives n (Advanced e r i) = 0
-gives n (Granted g) = cond (g.serial == n) 1 0
+abbrev pub gives : ℕ → Answer Refusal → ℕ
+gives n (Advanced (e, r, i)) = 0
+gives n (Granted g) = if g.serial == n then 1 else 0
 gives n (Running i) = 0
 gives n (Refused r) = 0
 
@@ -82,7 +83,7 @@ given n h = total (λ e. gives n e.answer) h
 
 -- how often the grant with a serial ended: it was open before a call and not after it
 abbrev pub ended : ℕ → List Event → ℕ
-ended n h = total (λ e. cond (is_open n e.before.stack) (cond (is_open n e.after.stack) 0 1) 0) h
+ended n h = total (λ e. if is_open n e.before.stack then (if is_open n e.after.stack then 0 else 1) else 0) h
 
 -- a job that is on the stack, and one that is released
 abbrev pub OnStack : ℕ → ℕ → List Job → Type 0
@@ -98,8 +99,8 @@ abbrev pub Present : ℕ → ℕ → State → Type 0
 Present i d s = IsReleased i d s.released ⊎ OnStack i d s.stack
 
 -- the call is an advance that was not refused
-abbrev pub IsAdvance : Answer → Type 0
-IsAdvance (Advanced e r i) = Unit {0}
+abbrev pub IsAdvance : Answer Refusal → Type 0
+IsAdvance (Advanced (e, r, i)) = Unit {0}
 IsAdvance (Granted g) = ⊥
 IsAdvance (Running i) = ⊥
 IsAdvance (Refused r) = ⊥
@@ -114,8 +115,8 @@ Somewhere P [] = ⊥
 Somewhere P (e ∷ es) = P e ⊎ Somewhere P es
 
 -- the stay of a grant has not gone past its section's length
-abbrev pub GrantFits : Table → List Event → Answer → Type 0
-GrantFits k h (Advanced e r i) = Unit {0}
+abbrev pub GrantFits : Table → List Event → Answer Refusal → Type 0
+GrantFits k h (Advanced (e, r, i)) = Unit {0}
 GrantFits k h (Granted g) = stay g.serial h ≤ (section_at k g.section).length
 GrantFits k h (Running i) = Unit {0}
 GrantFits k h (Refused r) = Unit {0}

@@ -1,7 +1,7 @@
 -- What a call does, and what it answers. Earliest deadline first with deadline inheritance: the first released task is pushed only if its
 -- absolute deadline is earlier than the running task's and its D is below the running task's inherited deadline. A refused call
 -- changes nothing, and of several reasons the one with the lowest number counts. `Run` goes on with lists of calls.
-use Rattle.std.specs.Prelude.{ℕ, ◌+◌, ◌-◌, Bool, true, false, cond, ◌&&◌, ◌||◌, List, [], ◌∷◌, length, Some, None, Option, ◌==◌, nat_lt}
+use Rattle.std.specs.Prelude.{ℕ, ◌+◌, ◌-◌, Bool, true, false, if◌then◌else◌, ◌&&◌, ◌||◌, List, [], ◌∷◌, length, Some, None, Option, ◌==◌, nat_lt}
 use Rattle.queue.specs.declared.waiting.Waiting.{Waiting}
 use Rattle.queue.specs.declared.released.Released.{Released}
 use Rattle.queue.specs.Order.{insert_sorted}
@@ -24,10 +24,10 @@ most_entries = 4294967295
 
 -- a state with other parts
 abbrev pub with_stack : State → List Job → State
-with_stack s js = record { clock = s.clock; waiting = s.waiting; released = s.released; stack = js; counts = s.counts }
+with_stack s js = record s { stack = js }
 
 abbrev pub with_counts : State → Counts → State
-with_counts s c = record { clock = s.clock; waiting = s.waiting; released = s.released; stack = s.stack; counts = c }
+with_counts s c = record s { counts = c }
 
 -- selection: whether the first released task is pushed
 abbrev pub goes : Table → Released → List Job → Bool
@@ -37,9 +37,9 @@ goes k e (j ∷ js) = nat_lt e.deadline j.deadline && nat_lt e.relative (inherit
 abbrev pub picked : Table → State → List Released → State
 picked k s [] = s
 picked k s (e ∷ es) =
-    cond (goes k e s.stack)
-    (record { clock = s.clock; waiting = s.waiting; released = es; stack = record { task = e.task; deadline = e.deadline; opened = [] } ∷ s.stack; counts = s.counts })
-    s
+    if goes k e s.stack
+    then record s { released = es; stack = record { task = e.task; deadline = e.deadline; opened = [] } ∷ s.stack }
+    else s
 
 unfoldable pub selected : Table → State → State
 selected k s = picked k s s.released
@@ -50,56 +50,42 @@ put_back k i deadline ws = insert_sorted waiting_before (record { release = dead
 
 -- so many jobs more expired, and so many sections more were taken back
 abbrev pub expiring : ℕ → ℕ → Counts → Counts
-expiring jobs sections c = record {
-  releases = c.releases;
-  finishes = c.finishes;
-  expiries = c.expiries + jobs;
-  entries = c.entries;
-  leaves = c.leaves;
-  taken = c.taken + sections;
-}
+expiring jobs sections c = record c { expiries = c.expiries + jobs; taken = c.taken + sections }
 
 -- the running job expires if its deadline is t; its open sections are taken back
 abbrev pub top_expired : Table → ℕ → State → List Job → State
 top_expired k t s [] = s
 top_expired k t s (j ∷ js) =
-    cond (j.deadline == t)
-    (record { clock = s.clock; waiting = put_back k j.task j.deadline s.waiting; released = s.released; stack = js; counts = expiring 1 (length j.opened) s.counts })
-    s
+    if j.deadline == t
+    then record s { waiting = put_back k j.task j.deadline s.waiting; stack = js; counts = expiring 1 (length j.opened) s.counts }
+    else s
 
 -- each released job whose deadline is t expires
 abbrev pub lapsed : Table → ℕ → State → List Released → State
-lapsed k t s [] = record { clock = s.clock; waiting = s.waiting; released = []; stack = s.stack; counts = s.counts }
+lapsed k t s [] = record s { released = [] }
 lapsed k t s (e ∷ es) =
-    cond (e.deadline == t)
-    (lapsed k t (record { clock = s.clock; waiting = put_back k e.task e.deadline s.waiting; released = es; stack = s.stack; counts = expiring 1 0 s.counts }) es)
-    (record { clock = s.clock; waiting = s.waiting; released = e ∷ es; stack = s.stack; counts = s.counts })
+    if e.deadline == t
+    then lapsed k t (record s { waiting = put_back k e.task e.deadline s.waiting; released = es; counts = expiring 1 0 s.counts }) es
+    else record s { released = e ∷ es }
 
 -- one task more is released
 abbrev pub releasing : Counts → Counts
-releasing c = record {
-  releases = c.releases + 1;
-  finishes = c.finishes;
-  expiries = c.expiries;
-  entries = c.entries;
-  leaves = c.leaves;
-  taken = c.taken;
-}
+releasing c = record c { releases = c.releases + 1 }
 
 abbrev pub release_of : Table → Waiting → Released
 release_of k w = record { deadline = w.release + relative k w.task; relative = relative k w.task; task = w.task }
 
 -- each waiting task whose release is t is released
 abbrev pub released_at : Table → ℕ → State → List Waiting → State
-released_at k t s [] = record { clock = s.clock; waiting = []; released = s.released; stack = s.stack; counts = s.counts }
+released_at k t s [] = record s { waiting = [] }
 released_at k t s (w ∷ ws) =
-    cond (w.release == t)
-    (released_at k t (record { clock = s.clock; waiting = ws; released = insert_sorted released_before (release_of k w) s.released; stack = s.stack; counts = releasing s.counts }) ws)
-    (record { clock = s.clock; waiting = w ∷ ws; released = s.released; stack = s.stack; counts = s.counts })
+    if w.release == t
+    then released_at k t (record s { waiting = ws; released = insert_sorted released_before (release_of k w) s.released; counts = releasing s.counts }) ws
+    else record s { waiting = w ∷ ws }
 
 -- the clock shows t
 abbrev pub clock_at : ℕ → State → State
-clock_at t s = record { clock = t; waiting = s.waiting; released = s.released; stack = s.stack; counts = s.counts }
+clock_at t s = record s { clock = t }
 
 -- advance to t: the running job, then released jobs expire; then tasks are released; then selection
 unfoldable pub advanced : Table → ℕ → State → State
@@ -112,16 +98,17 @@ advanced k t s =
 -- t is past what is due
 abbrev pub beyond : ℕ → Option ℕ → Option ℕ
 beyond t None = None
-beyond t (Some d) = cond (nat_lt d t) (Some d) None
+beyond t (Some d) = if nat_lt d t then Some d else None
 
 -- why an advance to t is refused
 abbrev pub not_advanced : ℕ → State → Option Refusal
 not_advanced t s =
-    cond (nat_lt t s.clock) (Some Past) (cond (nat_lt last_instant t) (Some Far) (elim (beyond t (due s)) [ None ↦ None | Some d ↦ Some (BeyondDue d) ]))
+    if nat_lt t s.clock then Some Past
+    else (if nat_lt last_instant t then Some Far else elim (beyond t (due s)) [ None ↦ None | Some d ↦ Some (BeyondDue d) ])
 
 -- what an advance answers
-abbrev pub advanced_answer : State → State → Answer
-advanced_answer s s' = Advanced (s'.counts.expiries - s.counts.expiries) (s'.counts.releases - s.counts.releases) (running s'.stack)
+abbrev pub advanced_answer : State → State → Answer Refusal
+advanced_answer s s' = Advanced (s'.counts.expiries - s.counts.expiries, s'.counts.releases - s.counts.releases, running s'.stack)
 
 -- whether two places among the sections are the same
 abbrev pub same_place : Option ℕ → Option ℕ → Bool
@@ -145,18 +132,18 @@ ticket j x serial = record { task = j.task; section = x; serial = serial }
 
 -- one entry more, one leave more, one finish more
 abbrev pub entering : Counts → Counts
-entering c = record { releases = c.releases; finishes = c.finishes; expiries = c.expiries; entries = c.entries + 1; leaves = c.leaves; taken = c.taken }
+entering c = record c { entries = c.entries + 1 }
 
 abbrev pub leaving : Counts → Counts
-leaving c = record { releases = c.releases; finishes = c.finishes; expiries = c.expiries; entries = c.entries; leaves = c.leaves + 1; taken = c.taken }
+leaving c = record c { leaves = c.leaves + 1 }
 
 abbrev pub finishing : Counts → Counts
-finishing c = record { releases = c.releases; finishes = c.finishes + 1; expiries = c.expiries; entries = c.entries; leaves = c.leaves; taken = c.taken }
+finishing c = record c { finishes = c.finishes + 1 }
 
 -- what is left of a call: the state, and the answer
 pub record Outcome : Type 0 where
   pub state : State
-  pub answer : Answer
+  pub answer : Answer Refusal
 
 abbrev pub refused : State → Refusal → Outcome
 refused s r = record { state = s; answer = Refused r }
@@ -165,14 +152,16 @@ refused s r = record { state = s; answer = Refused r }
 abbrev pub entered : Table → ℕ → State → List Job → Outcome
 entered k x s [] = refused s NothingRuns
 entered k x s (j ∷ js) =
-    cond (enterable k x j)
-    (cond (nat_lt s.counts.entries most_entries)
-    (record {
-      state = with_counts (with_stack s (record { task = j.task; deadline = j.deadline; opened = record { section = x; serial = s.counts.entries } ∷ j.opened } ∷ js)) (entering s.counts);
+    if enterable k x j
+    then (
+    if nat_lt s.counts.entries most_entries
+    then record {
+      state = with_counts (with_stack s (record j { opened = record { section = x; serial = s.counts.entries } ∷ j.opened } ∷ js)) (entering s.counts);
       answer = Granted (ticket j x s.counts.entries);
-    })
-    (refused s TooManyEntries))
-    (refused s NotEnterable)
+    }
+    else refused s TooManyEntries
+    )
+    else refused s NotEnterable
 
 -- whether an open section is the one that a grant names
 abbrev pub opens_for : Ticket → Open → Bool
@@ -200,10 +189,12 @@ closed (o ∷ os) = os
 abbrev pub left : Table → Ticket → State → List Job → Outcome
 left k g s [] = refused s NotOpen
 left k g s (j ∷ js) =
-    cond (j.task == g.task && is_innermost g j.opened)
-    (let s' = selected k (with_counts (with_stack s (record { task = j.task; deadline = j.deadline; opened = closed j.opened } ∷ js)) (leaving s.counts)) in
-    record { state = s'; answer = Running (running s'.stack) })
-    (cond (grant_open g (j ∷ js)) (refused s (NotInnermost g)) (refused s NotOpen))
+    if j.task == g.task && is_innermost g j.opened
+    then (
+    let s' = selected k (with_counts (with_stack s (record j { opened = closed j.opened } ∷ js)) (leaving s.counts)) in
+    record { state = s'; answer = Running (running s'.stack) }
+    )
+    else (if grant_open g (j ∷ js) then refused s (NotInnermost g) else refused s NotOpen)
 
 abbrev pub none_open : List Open → Bool
 none_open [] = true
@@ -213,10 +204,12 @@ none_open (o ∷ os) = false
 abbrev pub finished : Table → State → List Job → Outcome
 finished k s [] = refused s NothingRuns
 finished k s (j ∷ js) =
-    cond (none_open j.opened)
-    (let s' = selected k (record { clock = s.clock; waiting = put_back k j.task j.deadline s.waiting; released = s.released; stack = js; counts = finishing s.counts }) in
-    record { state = s'; answer = Running (running s'.stack) })
-    (refused s StillOpen)
+    if none_open j.opened
+    then (
+    let s' = selected k (record s { waiting = put_back k j.task j.deadline s.waiting; stack = js; counts = finishing s.counts }) in
+    record { state = s'; answer = Running (running s'.stack) }
+    )
+    else refused s StillOpen
 
 -- one call
 unfoldable pub step : Table → Call → State → Outcome

@@ -18,6 +18,7 @@ use Rattle.queue.specs.declared.released.Released.{Released}
 use Rattle.machine.specs.declared.call.Call.{Call}
 use Rattle.machine.specs.declared.call.Call.TheVariants.{Advance, Enter, Leave, Finish}
 use Rattle.machine.specs.declared.call.Answer.{Answer}
+use Rattle.machine.specs.declared.call.Refusal.{Refusal}
 use Rattle.machine.specs.declared.call.Answer.TheVariants.{Advanced, Granted, Running, Refused}
 use Rattle.machine.specs.declared.call.Refusal.TheVariants.{Past, Far, BeyondDue, NothingRuns, NotEnterable, TooManyEntries, NotInnermost, NotOpen, StillOpen}
 use Rattle.machine.specs.State.{Table, Job, State, cost}
@@ -107,11 +108,11 @@ abbrev pub table_of : List ℕ → Table
 table_of text = record { tasks = text_tasks text; sections = text_sections text }
 
 -- what each call of a run answered
-abbrev pub answers_of : List Event → List Answer
+abbrev pub answers_of : List Event → List (Answer Refusal)
 answers_of [] = []
 answers_of (e ∷ es) = e.answer ∷ answers_of es
 
-abbrev pub answers : List ℕ → List Call → List Answer
+abbrev pub answers : List ℕ → List Call → List (Answer Refusal)
 answers text cs = answers_of (history (table_of text) cs)
 
 -- the state after the first so many calls
@@ -132,7 +133,7 @@ flash_calls = Advance 0 ∷ Advance 10 ∷ Finish ∷ Advance 20 ∷ Finish ∷ 
 pub record Runs : Type 0 where
   pub pair_answers :
       answers pair pair_calls
-      ≡ Advanced 0 2 0 ∷ Advanced 0 0 0 ∷ Running 1 ∷ Advanced 0 0 1 ∷ Granted (record { task = 1; section = 1; serial = 0 }) ∷ Advanced 0 1 1
+      ≡ Advanced (0, 2, 0) ∷ Advanced (0, 0, 0) ∷ Running 1 ∷ Advanced (0, 0, 1) ∷ Granted (record { task = 1; section = 1; serial = 0 }) ∷ Advanced (0, 1, 1)
       ∷ Running 0 ∷ Running 1 ∷ Running 32 ∷ []
   pub pair_waits : (after pair 6 pair_calls).released ≡ record { deadline = 14; relative = 4; task = 0 } ∷ []
   pub pair_stays :
@@ -144,7 +145,7 @@ pub record Runs : Type 0 where
       (after pair 9 pair_calls).counts ≡ record { releases = 3; finishes = 3; expiries = 0; entries = 1; leaves = 1; taken = 0 }
   pub flash_answers :
       answers flash flash_calls
-      ≡ Advanced 0 4 0 ∷ Advanced 0 0 0 ∷ Running 1 ∷ Advanced 0 0 1 ∷ Running 2 ∷ Advanced 0 0 2 ∷ Running 3 ∷ Advanced 0 1 3 ∷ []
+      ≡ Advanced (0, 4, 0) ∷ Advanced (0, 0, 0) ∷ Running 1 ∷ Advanced (0, 0, 1) ∷ Running 2 ∷ Advanced (0, 0, 2) ∷ Running 3 ∷ Advanced (0, 1, 3) ∷ []
   pub flash_keeps : (after flash 8 flash_calls).stack ≡ record { task = 3; deadline = 90; opened = [] } ∷ []
   pub flash_waits : (after flash 8 flash_calls).released ≡ record { deadline = 90; relative = 40; task = 0 } ∷ []
 
@@ -155,10 +156,10 @@ refused_calls =
     ∷ Leave (record { task = 0; section = 0; serial = 0 }) ∷ Leave (record { task = 0; section = 0; serial = 0 }) ∷ Finish
     ∷ Enter 1 ∷ Enter 2 ∷ Leave (record { task = 1; section = 1; serial = 1 }) ∷ []
 
-abbrev pub refused_answers : List Answer
+abbrev pub refused_answers : List (Answer Refusal)
 refused_answers =
-    Refused NothingRuns ∷ Refused NothingRuns ∷ Refused (BeyondDue 0) ∷ Advanced 0 4 0 ∷ Refused (BeyondDue 40) ∷ Refused Far
-    ∷ Refused NotEnterable ∷ Granted (record { task = 0; section = 0; serial = 0 }) ∷ Refused StillOpen ∷ Advanced 0 0 0 ∷ Refused Past
+    Refused NothingRuns ∷ Refused NothingRuns ∷ Refused (BeyondDue 0) ∷ Advanced (0, 4, 0) ∷ Refused (BeyondDue 40) ∷ Refused Far
+    ∷ Refused NotEnterable ∷ Granted (record { task = 0; section = 0; serial = 0 }) ∷ Refused StillOpen ∷ Advanced (0, 0, 0) ∷ Refused Past
     ∷ Running 0 ∷ Refused NotOpen ∷ Running 1 ∷ Granted (record { task = 1; section = 1; serial = 1 })
     ∷ Granted (record { task = 1; section = 2; serial = 2 }) ∷ Refused (NotInnermost (record { task = 1; section = 1; serial = 1 })) ∷ []
 

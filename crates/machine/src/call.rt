@@ -81,15 +81,15 @@ impl fmt::Display for Refusal {
     }
 }
 
-/// What a call answers.
+/// What a call answers, where `R` says why a call is refused.
 #[derive(Clone, Copy, Debug, PartialEq)]
-pub enum Answer {
+pub enum Answer<R> {
     /// An advance: how many jobs expired, how many were released, and the running task, or 32 for none.
-    Advanced(u32, u32, u32),
+    Advanced((u32, u32, u32)),
     /// An entry: the grant.
     Granted(Ticket),
     /// A leave or a finish: the running task, or 32 for none.
     Running(u32),
     /// A refusal.
-    Refused(Refusal),
+    Refused(R),
 }

@@ -21,13 +21,13 @@ use Rattle.scheduler.specs.Answered.{told}
 use Rattle.scheduler.specs.declared.records.Records.{Records}
 use Rattle.scheduler.specs.declared.stack.Inner.{Inner}
 use Rattle.scheduler.specs.View.{table_of, opens_of, job_of, jobs_of, state_of}
-use Rattle.scheduler.specs.Steady.{Copied, job_at, chained}
+use Rattle.scheduler.specs.Steady.{job_at, chained, Steady}
 use Rattle.scheduler.specs.Moves.{top_of, no_open, no_section, innermost_of, enterable_at, enter_refusal, finish_refusal, again_of, with_open}
 use Rattle.scheduler.specs.Moves.{entered_by, finished_by}
 use Rattle.scheduler.specs.Calls.{answer_of, state_after}
 use Rattle.scheduler.proofs.Jobs.{jobs_none, jobs_top, jobs_set, opens_none, opens_top, opens_push}
 use Rattle.scheduler.proofs.Facts.{section_at_lem, sections_length}
-use Rattle.scheduler.proofs.Ghosts.{Ghosts, tall, known}
+use Rattle.scheduler.proofs.Ghosts.{tall, known}
 use Rattle.scheduler.proofs.Events.{high, top_count}
 
 -- the answer and the state of a live core
@@ -56,7 +56,7 @@ by_two true b x y s o = refl
 by_two false true x y s o = refl
 by_two false false x y s o = refl
 
-module _ (k : Records) (i : Inner) (gh : Ghosts k i) where
+module _ (k : Records) (i : Inner) (gh : Steady k i) where
   wide : (p : ℕ) → p < i.depth → (job_at i p).count ≤ length (job_at i p).opened
   wide p h = omega (arith, (known k i gh p h).2, (tall k i gh).3 p (omega (arith, (tall k i gh).2)))
 
@@ -76,10 +76,10 @@ module _ (k : Records) (i : Inner) (gh : Ghosts k i) where
         | inl lt ↦
             ap (λ (s : SectionRecord). ltb x k.sizes.sections && (eqb s.task (job_at i p).task && same_place s.around (innermost_of (job_at i p)))) (sym (section_at_lem k x lt))
             ∙ ap (λ (o : Option ℕ). ltb x k.sizes.sections && (eqb (section_at (table_of k) x).task (job_at i p).task && same_place (section_at (table_of k) x).around o)) (innermost_over p h)
-            ∙ ap (λ n. ltb x n && (eqb (section_at (table_of k) x).task (job_at i p).task && same_place (section_at (table_of k) x).around (innermost (job_of (job_at i p)).opened))) (sym (sections_length k gh.copied))
+            ∙ ap (λ n. ltb x n && (eqb (section_at (table_of k) x).task (job_at i p).task && same_place (section_at (table_of k) x).around (innermost (job_of (job_at i p)).opened))) (sym (sections_length k))
         | inr ge ↦
             let no_more : ltb x k.sizes.sections ≡ false = le-ltb x k.sizes.sections ge in
-            let none_left : ltb x (length (table_of k).sections) ≡ false = le-ltb x (length (table_of k).sections) (omega (arith, sections_length k gh.copied)) in
+            let none_left : ltb x (length (table_of k).sections) ≡ false = le-ltb x (length (table_of k).sections) (omega (arith, sections_length k)) in
             ap (λ b. b && (eqb (get_or k.sections x no_section).task (job_at i p).task && same_place (get_or k.sections x no_section).around (innermost_of (job_at i p)))) no_more
             ∙ sym (ap (λ b. b && (eqb (section_at (table_of k) x).task (job_at i p).task && same_place (section_at (table_of k) x).around (innermost (job_of (job_at i p)).opened))) none_left)
       ]
@@ -200,9 +200,9 @@ chain_inside k (o ∷ os) c =
     let b = and_parts (same_place (section_at k o.section).around (innermost os)) (chained k os) a.1 in
     (ltb-true _ _ a.0, same_place_lem _ _ b.0 ∙ innermost_number os, chain_inside k os b.1)
 
-pub chain_short : (k : Records) → Copied k → (os : List Open) → chained (table_of k) os ≡ true → length os ≤ deepest
-chain_short k ok os c =
-    omega (arith, length-map os (λ (o : Open). o.section), nesting_within (table_of k).tasks (table_of k).sections ok.4 (numbers os) (chain_inside (table_of k) os c))
+pub chain_short : (k : Records) (os : List Open) → chained (table_of k) os ≡ true → length os ≤ deepest
+chain_short k os c =
+    omega (arith, length-map os (λ (o : Open). o.section), nesting_within (table_of k).tasks (table_of k).sections k.copied.4 (numbers os) (chain_inside (table_of k) os c))
 
 -- what an entry that is not refused finds: the section lies directly in the innermost open one, and there is room for it
 pub record Enterable (k : Records) (i : Inner) (x : ℕ) : Type 0 where
@@ -212,7 +212,7 @@ pub record Enterable (k : Records) (i : Inner) (x : ℕ) : Type 0 where
   pub nested : chained (table_of k) (record { section = x; serial = i.counts.entries } ∷ (job_of (top_of i)).opened) ≡ true
   pub room : (top_of i).count < deepest
 
-pub enter_some : (k : Records) (i : Inner) (gh : Ghosts k i) (x : ℕ) → None ≡ enter_refusal k i x → Enterable k i x
+pub enter_some : (k : Records) (i : Inner) (gh : Steady k i) (x : ℕ) → None ≡ enter_refusal k i x → Enterable k i x
 enter_some k i gh x e =
     let p = none_three (eqb i.depth 0) (enterable_at k x (top_of i)) (ltb i.counts.entries most_entries) NothingRuns TooManyEntries NotEnterable e in
     let some = not_none i.depth p.0 in
@@ -222,10 +222,10 @@ enter_some k i gh x e =
     let nested = and_from (ltb x (length (table_of k).sections)) _ a.0 (and_from (same_place (section_at (table_of k) x).around (innermost (job_of (top_of i)).opened)) _ b.1 (gh.nested (i.depth - 1) last)) in
     record {
       some = some;
-      in_table = omega (arith, ltb-true _ _ a.0, sections_length k gh.copied);
+      in_table = omega (arith, ltb-true _ _ a.0, sections_length k);
       counted = ltb-true _ _ p.2;
       nested = nested;
-      room = omega (arith, chain_short k gh.copied (record { section = x; serial = i.counts.entries } ∷ (job_of (top_of i)).opened) nested, top_count k i gh some);
+      room = omega (arith, chain_short k (record { section = x; serial = i.counts.entries } ∷ (job_of (top_of i)).opened) nested, top_count k i gh some);
     }
 
 -- an advance

@@ -10,15 +10,15 @@ use Rattle.machine.specs.Step.{top_expired, lapsed, released_at, release_of}
 use Rattle.scheduler.specs.declared.records.Records.{Records}
 use Rattle.scheduler.specs.declared.stack.Inner.{Inner}
 use Rattle.scheduler.specs.View.{table_of, job_of, jobs_of, state_of}
-use Rattle.scheduler.specs.Steady.{next_of}
+use Rattle.scheduler.specs.Steady.{next_of, Steady}
 use Rattle.scheduler.specs.Moves.{top_of, most, expired_by, is_due, again_of}
 use Rattle.scheduler.specs.Moves.{lapsed_by, released_by}
 use Rattle.scheduler.specs.Fitted.{Listed}
 use Rattle.scheduler.proofs.Jobs.{jobs_none, jobs_top, opens_length}
-use Rattle.scheduler.proofs.Ghosts.{Ghosts, tall, known}
+use Rattle.scheduler.proofs.Ghosts.{tall, known}
 use Rattle.scheduler.proofs.Fits.{releases_few}
 
-module _ (k : Records) (i : Inner) (gh : Ghosts k i) where
+module _ (k : Records) (i : Inner) (gh : Steady k i) where
   pub high : i.depth ≤ length i.stack
   high = omega (arith, (tall k i gh).0, (tall k i gh).2)
 

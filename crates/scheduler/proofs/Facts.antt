@@ -11,18 +11,18 @@ use Rattle.machine.specs.State.{Table, Open, task_at, section_at}
 use Rattle.scheduler.specs.declared.records.Records.{Records}
 use Rattle.scheduler.specs.declared.stack.OpenSection.{OpenSection}
 use Rattle.scheduler.specs.View.{table_of, open_of, opens_of}
-use Rattle.scheduler.specs.Steady.{Copied, chained}
+use Rattle.scheduler.specs.Steady.{chained}
 use Rattle.scheduler.proofs.Jobs.{opens_more}
 
-module _ (k : Records) (ok : Copied k) where
+module _ (k : Records) where
   pub tasks_length : length (table_of k).tasks ≡ k.sizes.tasks
-  tasks_length = length-take-le k.sizes.tasks k.tasks (omega (arith, ok.0, ok.2))
+  tasks_length = length-take-le k.sizes.tasks k.tasks (omega (arith, k.copied.0, k.copied.2))
 
   pub sections_length : length (table_of k).sections ≡ k.sizes.sections
-  sections_length = length-take-le k.sizes.sections k.sections (omega (arith, ok.1, ok.3))
+  sections_length = length-take-le k.sizes.sections k.sections (omega (arith, k.copied.1, k.copied.3))
 
   pub judgeable : Judgeable (table_of k).tasks (table_of k).sections
-  judgeable = judgeable_if_sound (table_of k).tasks (table_of k).sections ok.4
+  judgeable = judgeable_if_sound (table_of k).tasks (table_of k).sections k.copied.4
 
   pub timed_at : (i : ℕ) → i < k.sizes.tasks → Timed (task_at (table_of k) i)
   timed_at i h = All-get_or Timed (table_of k).tasks i _ (omega (arith, tasks_length)) judgeable.timed

@@ -22,12 +22,12 @@ use Rattle.scheduler.specs.declared.stack.Spot.TheVariants.{Waiting as Waits, Re
 use Rattle.scheduler.specs.declared.question.Counts.{Counts}
 use Rattle.scheduler.specs.declared.stack.Inner.{Inner}
 use Rattle.scheduler.specs.View.{table_of, jobs_of}
-use Rattle.scheduler.specs.Steady.{job_at, spot_at, stands_at, latest, next_of}
+use Rattle.scheduler.specs.Steady.{job_at, spot_at, stands_at, latest, next_of, Steady}
 use Rattle.scheduler.specs.Moves.{with_counts, with_spot, with_top, top_of, pushed, popped}
 use Rattle.scheduler.specs.Fitted.{sum_of, WaitsIn, ReleasedIn, Listed}
 use Rattle.scheduler.proofs.Jobs.{jobs_top, jobs_push, jobs_set, jobs_length}
 use Rattle.scheduler.proofs.Facts.{timed_at}
-use Rattle.scheduler.proofs.Ghosts.{Ghosts, tall, known, noted, spot_same, spot_other}
+use Rattle.scheduler.proofs.Ghosts.{tall, known, noted, spot_same, spot_other}
 use Rattle.scheduler.proofs.Queues.{put_in, none_of, not_of, sum-insert, sum-most, jobs_each}
 
 -- the three spots are different
@@ -57,13 +57,13 @@ module _ (k : Records) (i : Inner) where
   keep_released task s rs apart all =
       all_map2 (λ e. e.task ≢ task) (ReleasedIn k i) (ReleasedIn k (with_spot i task s)) (λ e ne h. (h.0, spot_other i task e.task s ne ∙ h.1, h.2)) rs apart all
 
-module _ (k : Records) (i : Inner) (gh : Ghosts k i) where
+module _ (k : Records) (i : Inner) (gh : Steady k i) where
   -- the next release of a task is not too far off
   pub next_near : (task deadline : ℕ) → task < k.sizes.tasks → deadline ≤ latest → next_of (table_of k) task deadline ≤ latest + largest
-  next_near task deadline h soon = omega (arith, (timed_at k gh.copied task h).near)
+  next_near task deadline h soon = omega (arith, (timed_at k task h).near)
 
   spot_room : (task : ℕ) → task < k.sizes.tasks → task < length i.spots
-  spot_room task h = omega (arith, gh.copied.2, (tall k i gh).1)
+  spot_room task h = omega (arith, k.copied.2, (tall k i gh).1)
 
   -- every task with a spot is among the entries
   module _ {E : Type 0} (f : E → ℕ) (v : Spot) where
@@ -109,7 +109,7 @@ module _ (k : Records) (i : Inner) (gh : Ghosts k i) where
         (jobs_each (λ j. next_of (table_of k) j.task j.deadline ≤ latest + largest) i.stack i.depth depth_room
         (λ p h. next_near (job_at i p).task (job_at i p).deadline (known k i gh p h).0 (known k i gh p h).1)) in
         let d = jobs_length i.stack i.depth depth_room in
-        omega (arith, a, b, c, d, li.few, li.places, gh.copied.2)
+        omega (arith, a, b, c, d, li.few, li.places, k.copied.2)
 
     -- the job at the top ends: its task waits for its next release
     module _ (some : 0 < i.depth) where
@@ -129,7 +129,7 @@ module _ (k : Records) (i : Inner) (gh : Ghosts k i) where
       end_apart = others_waiting k i (top_of i).task ws (stacked_waits (spot_at i (top_of i).task) (i.depth - 1) top_stands) li.waiting
 
       pub end_put : inserted waiting_order wc again ws ≡ insert_sorted waiting_before again ws
-      end_put = put_in waiting_order wc again ws (omega (arith, top_known, gh.copied.2)) (none_of (λ w. w.task) (top_of i).task ws end_apart) (omega (arith, li.places, li.waiting_room))
+      end_put = put_in waiting_order wc again ws (omega (arith, top_known, k.copied.2)) (none_of (λ w. w.task) (top_of i).task ws end_apart) (omega (arith, li.places, li.waiting_room))
 
       pub end_listed :
           (c : Counts) → c.releases ≡ i.counts.releases → c.finishes + c.expiries ≡ i.counts.finishes + i.counts.expiries + 1
@@ -184,7 +184,7 @@ module _ (k : Records) (i : Inner) (gh : Ghosts k i) where
 
     -- is pushed
     pub push_room : i.depth < most_tasks
-    push_room = omega (arith, li.places, gh.copied.2)
+    push_room = omega (arith, li.places, k.copied.2)
 
     pub push_listed : Listed k (pushed i e.task e.deadline) ws es wc rc
     push_listed =
@@ -209,7 +209,7 @@ module _ (k : Records) (i : Inner) (gh : Ghosts k i) where
 
     pub lapse_put : inserted waiting_order wc waits ws ≡ insert_sorted waiting_before waits ws
     lapse_put =
-        put_in waiting_order wc waits ws (omega (arith, li.released.0.0, gh.copied.2)) (none_of (λ w. w.task) e.task ws first_apart) (omega (arith, li.places, li.waiting_room))
+        put_in waiting_order wc waits ws (omega (arith, li.released.0.0, k.copied.2)) (none_of (λ w. w.task) e.task ws first_apart) (omega (arith, li.places, li.waiting_room))
 
     pub lapse_listed :
         (c : Counts) → c.releases ≡ i.counts.releases → c.finishes ≡ i.counts.finishes → c.expiries ≡ i.counts.expiries + 1
@@ -236,20 +236,20 @@ module _ (k : Records) (i : Inner) (gh : Ghosts k i) where
     out = release_of (table_of k) w
 
     out_soon : out.deadline ≤ latest
-    out_soon = let t = timed_at k gh.copied w.task li.waiting.0.0 in omega (arith, t.near, t.cyclic)
+    out_soon = let t = timed_at k w.task li.waiting.0.0 in omega (arith, t.near, t.cyclic)
 
     out_apart : AllByRecursion (λ e. e.task ≢ w.task) rs
     out_apart = others_released k i w.task rs (λ e. released_waits (spot_at i w.task) e li.waiting.0.1) li.released
 
     pub release_put : inserted released_order rc out rs ≡ insert_sorted released_before out rs
     release_put =
-        put_in released_order rc out rs (omega (arith, li.waiting.0.0, gh.copied.2)) (none_of (λ e. e.task) w.task rs out_apart) (omega (arith, li.places, li.released_room))
+        put_in released_order rc out rs (omega (arith, li.waiting.0.0, k.copied.2)) (none_of (λ e. e.task) w.task rs out_apart) (omega (arith, li.places, li.released_room))
 
     pub release_listed :
         (c : Counts) → c.releases ≡ i.counts.releases + 1 → c.finishes ≡ i.counts.finishes → c.expiries ≡ i.counts.expiries
         → Listed k (with_spot (with_counts i c) w.task IsReleased) ws (insert_sorted released_before out rs) wc rc
     release_listed c re fi ex =
-        let t = timed_at k gh.copied w.task li.waiting.0.0 in
+        let t = timed_at k w.task li.waiting.0.0 in
         let sum = sum-insert (λ (e : Released). next_of (table_of k) e.task e.deadline) released_before out rs in
         record {
           waiting_room = li.waiting_room;

@@ -11,24 +11,10 @@ use Rattle.scheduler.specs.declared.stack.Spot.{Spot}
 use Rattle.scheduler.specs.declared.stack.Spot.TheVariants.{Waiting, Released, Stacked}
 use Rattle.scheduler.specs.declared.question.Counts.{Counts}
 use Rattle.scheduler.specs.declared.stack.Inner.{Inner}
-use Rattle.scheduler.specs.declared.run_core.Core.{Core}
 use Rattle.scheduler.specs.View.{table_of, opens_of, jobs_of}
-use Rattle.scheduler.specs.Steady.{Copied, Tall, Known, Nested, Noted, Placed, Balanced, no_record, job_at, spot_at, stands_at, stood_by, latest, chained}
+use Rattle.scheduler.specs.Steady.{Tall, Known, Noted, Placed, Balanced, Steady, no_record, job_at, spot_at, stands_at, stood_by, latest, chained}
 use Rattle.scheduler.specs.Moves.{with_counts, with_spot, with_top, top_of, pushed, popped}
 use Rattle.scheduler.proofs.Jobs.{jobs_top, jobs_push, jobs_set, opens_none, opens_length}
-
--- all of it, as the check asks for it where a core is made or given back
-pub record Ghosts (k : Records) (i : Inner) : Type 0 where
-  pub copied : Copied k
-  pub tall : Tall i
-  pub known : Known k i
-  pub nested : Nested k i
-  pub noted : Noted i
-  pub placed : Placed i
-  pub balanced : Balanced i
-
-pub ghosts_of : {W R : Type 0} (c : Core W R) → Ghosts c.records c.inner
-ghosts_of c = record { copied = c.copied; tall = c.tall; known = c.known; nested = c.nested; noted = c.noted; placed = c.placed; balanced = c.balanced }
 
 -- a spot that stands for a place of the stack
 pub stands_is : (s : Spot) (p : ℕ) → stands_at s p ≡ true → s ≡ Stacked p
@@ -94,7 +80,7 @@ module _ (i j : Inner) where
             ∙ stood_kept t (spot_at i t) (λ p lt own. let kept = stay p lt (λ e. ne (sym own ∙ e)) in (kept.0, kept.1 ∙ own)) (old t h)
       ]
 
-module _ (k : Records) (i : Inner) (gh : Ghosts k i) where
+module _ (k : Records) (i : Inner) (gh : Steady k i) where
   abbrev pub tall : Tall i
   tall = gh.tall
 
@@ -111,7 +97,7 @@ module _ (k : Records) (i : Inner) (gh : Ghosts k i) where
   balanced = gh.balanced
 
   pub task_room : (p : ℕ) → p < i.depth → (job_at i p).task < length i.spots
-  task_room p h = omega (arith, (known p h).0, gh.copied.2, tall.1)
+  task_room p h = omega (arith, (known p h).0, k.copied.2, tall.1)
 
   -- a job more on the stack
   module _ (task deadline : ℕ) (room : i.depth < most_tasks) (in_table : task < k.sizes.tasks) (soon : deadline ≤ latest) (off : Off (spot_at i task)) where
@@ -144,10 +130,9 @@ module _ (k : Records) (i : Inner) (gh : Ghosts k i) where
         let none = ap length (opens_none (job_at i i.depth).opened) in
         (omega (arith, balanced.0, jobs, none), balanced.1)
 
-    pub push_ghosts : Ghosts k (pushed i task deadline)
+    pub push_ghosts : Steady k (pushed i task deadline)
     unfolding fresh
     push_ghosts = record {
-      copied = gh.copied;
       tall = (
         length-set i.stack i.depth _ ∙ tall.0,
         length-set i.spots task _ ∙ tall.1,
@@ -162,11 +147,29 @@ module _ (k : Records) (i : Inner) (gh : Ghosts k i) where
       nested = pushed_all (λ p r. chained (table_of k) (opens_of r.opened r.count) ≡ true) gh.nested (ap (chained (table_of k)) (opens_none (job_at i i.depth).opened));
       noted = pushed_all (λ p r. stands_at (spot_at (pushed i task deadline) r.task) p ≡ true)
           (λ p h. ap (λ x. stands_at x p) (spot_other i task (job_at i p).task (Stacked i.depth) (apart i task (job_at i p).task p off (noted p h))) ∙ noted p h)
-          (is_stands _ i.depth (spot_same i task (Stacked i.depth) (omega (arith, in_table, gh.copied.2, tall.1))));
+          (is_stands _ i.depth (spot_same i task (Stacked i.depth) (omega (arith, in_table, k.copied.2, tall.1))));
       placed = placed_kept i (pushed i task deadline) task (Stacked i.depth) refl tall.1 push_stood
           (λ p h _. (omega arith, ap (λ (r : StackRecord). r.task) (push_at p (omega arith)))) placed;
       balanced = push_balance;
     }
+
+  -- a task that has no job on the stack is noted at another place off it
+  pub note_ghosts :
+      (task : ℕ) (s : Spot) (c : Counts) → Off (spot_at i task) → stood_by i task s ≡ true → c.entries ≡ i.counts.entries → c.leaves ≡ i.counts.leaves
+      → c.taken ≡ i.counts.taken → task < most_tasks → Steady k (with_spot (with_counts i c) task s)
+  note_ghosts task s c off stood en le ta room = record {
+    tall = (tall.0, length-set i.spots task s ∙ tall.1, tall.2, tall.3);
+    known = known;
+    nested = gh.nested;
+    noted = (λ p h. ap (λ x. stands_at x p) (spot_other i task (job_at i p).task s (apart i task (job_at i p).task p off (noted p h))) ∙ noted p h);
+    placed = placed_kept i (with_spot (with_counts i c) task s) task s refl tall.1 (stood_as s stood) (λ p h _. (h, refl)) placed;
+    balanced = (omega (arith, balanced.0, en, le, ta), omega (arith, balanced.1, en));
+  }
+    where
+      stood_as : (s : Spot) → stood_by i task s ≡ true → stood_by (with_spot (with_counts i c) task s) task s ≡ true
+      stood_as Waiting e = refl
+      stood_as Released e = refl
+      stood_as (Stacked p) e = e
 
   -- how many sections are open on a stack that is not empty
   pub top_open : 0 < i.depth → open_count (jobs_of i.stack i.depth) ≡ (top_of i).count + open_count (jobs_of i.stack (i.depth - 1))
@@ -179,10 +182,9 @@ module _ (k : Records) (i : Inner) (gh : Ghosts k i) where
   -- the top job ends, and its open sections are taken back
   pub pop_ghosts :
       (c : Counts) → 0 < i.depth → c.entries ≡ i.counts.entries → c.leaves ≡ i.counts.leaves → c.taken ≡ i.counts.taken + (top_of i).count
-      → Ghosts k (popped (with_counts i c))
+      → Steady k (popped (with_counts i c))
   pop_ghosts c some en le ta =
       let last : i.depth - 1 < i.depth = omega arith in record {
-        copied = gh.copied;
         tall = (tall.0, length-set i.spots (top_of i).task Waiting ∙ tall.1, omega (arith, tall.2), tall.3);
         known = (λ p h. known p (omega arith));
         nested = (λ p h. gh.nested p (omega arith));
@@ -219,12 +221,11 @@ module _ (k : Records) (i : Inner) (gh : Ghosts k i) where
         (c : Counts) → r.task ≡ (top_of i).task → r.deadline ≡ (top_of i).deadline → r.count ≤ deepest → length r.opened ≡ deepest
         → chained (table_of k) (opens_of r.opened r.count) ≡ true
         → c.entries + (top_of i).count + i.counts.leaves + i.counts.taken ≡ i.counts.entries + r.count + c.leaves + c.taken → c.entries ≤ most_entries
-        → Ghosts k (with_counts (with_top i r) c)
+        → Steady k (with_counts (with_top i r) c)
     top_ghosts c own due few wide nest even fine =
         let last : i.depth - 1 < i.depth = omega arith in
         let long = opens_length r.opened r.count (omega arith) in
         let jobs = ap open_count (jobs_set i.stack i.depth r some (omega (arith, tall.0, tall.2))) in record {
-          copied = gh.copied;
           tall = (
             length-set i.stack (i.depth - 1) r ∙ tall.0,
             tall.1,

@@ -16,11 +16,11 @@ use Rattle.scheduler.specs.declared.stack.Spot.{Spot}
 use Rattle.scheduler.specs.declared.stack.Spot.TheVariants.{Waiting, Released, Stacked}
 use Rattle.scheduler.specs.declared.stack.Inner.{Inner}
 use Rattle.scheduler.specs.View.{table_of, open_of, opens_of, job_of, jobs_of, state_of}
-use Rattle.scheduler.specs.Steady.{no_record, job_at, spot_at, stands_at, stood_by}
+use Rattle.scheduler.specs.Steady.{no_record, job_at, spot_at, stands_at, stood_by, Steady}
 use Rattle.scheduler.specs.Moves.{top_of, no_open, last_open, with_closed, innermost_for, open_for, opened_for}
 use Rattle.scheduler.specs.Moves.{left_by}
 use Rattle.scheduler.proofs.Jobs.{jobs_none, jobs_top, jobs_more, jobs_set, opens_none, opens_top}
-use Rattle.scheduler.proofs.Ghosts.{Ghosts, tall, known, noted, placed}
+use Rattle.scheduler.proofs.Ghosts.{tall, known, noted, placed}
 use Rattle.scheduler.proofs.Events.{high}
 
 or_none : (a : Bool) → (a || false) ≡ a
@@ -55,14 +55,14 @@ module _ (test : Job → Bool) (rs : List StackRecord) where
             ∙ one_job n p (omega arith) (omega arith) (λ q h apart. none q (omega arith) apart)
       ]
 
-module _ (k : Records) (i : Inner) (gh : Ghosts k i) (task : ℕ) where
+module _ (k : Records) (i : Inner) (gh : Steady k i) (task : ℕ) where
   -- a task that is not on the stack has no job there
   off_job : (s : Spot) → s ≡ spot_at i task → ((p : ℕ) → stands_at s p ≡ false) → (p : ℕ) → p < i.depth → eqb (job_at i p).task task ≡ false
   off_job s is off p h =
       ne_eqb (job_at i p).task task (λ e. false≢true (sym (off p) ∙ ap (λ x. stands_at x p) (is ∙ ap (spot_at i) (sym e)) ∙ noted k i gh p h))
 
   far_job : most_tasks ≤ task → (p : ℕ) → p < i.depth → eqb (job_at i p).task task ≡ false
-  far_job far p h = ne_eqb (job_at i p).task task (λ e. omega (arith, (known k i gh p h).0, gh.copied.2))
+  far_job far p h = ne_eqb (job_at i p).task task (λ e. omega (arith, (known k i gh p h).0, k.copied.2))
 
   -- and one that is has just one
   module _ (small : task < most_tasks) (at : ℕ) (is : spot_at i task ≡ Stacked at) where
@@ -80,7 +80,7 @@ module _ (k : Records) (i : Inner) (gh : Ghosts k i) (task : ℕ) where
         ne_eqb (job_at i p).task task (λ e. ne (sym (eqb-true at p (sym (ap (λ x. stands_at x p) is) ∙ ap (λ t. stands_at (spot_at i t) p) (sym e) ∙ noted k i gh p h))))
 
 -- a grant is open where the note of its task says
-module _ (k : Records) (i : Inner) (gh : Ghosts k i) (g : Ticket) where
+module _ (k : Records) (i : Inner) (gh : Steady k i) (g : Ticket) where
   abbrev holds : Job → Bool
   holds j = eqb j.task g.task && among_open g j.opened
 

@@ -1,6 +1,10 @@
 -- Arrays that are filled from the front, read as lists with the last first: jobs on the stack, and open sections of a job.
-use Rattle.std.proofs.Common.{◌≡◌, ℕ, ◌+◌, ◌-◌, ◌<◌, ◌≤◌, List, [], ◌∷◌, map, reverse, length, get_or, take, set, refl, ap, ◌∙◌, arith}
+use Rattle.std.proofs.Common.{◌≡◌, ℕ, ◌+◌, ◌-◌, ◌<◌, ◌≤◌, Bool, ◌||◌, List, [], ◌∷◌, map, reverse, length, get_or, take, set, refl, ap, ◌∙◌, arith}
 use Rattle.std.proofs.lemmas.List.{take_more, take_more_set, reverse-append, length-reverse, length-map, length-take-le}
+use Rattle.std.proofs.lemmas.List.Sorted.{list_any-IsPermutation, IsPermutation-reverse}
+use Rattle.std.specs.List.{list_any}
+use Rattle.machine.specs.declared.call.Ticket.{Ticket}
+use Rattle.machine.specs.Step.{opens_for, among_open}
 use Rattle.scheduler.specs.declared.stack.OpenSection.{OpenSection}
 use Rattle.scheduler.specs.declared.stack.StackRecord.{StackRecord}
 use Rattle.scheduler.specs.View.{open_of, opens_of, job_of, jobs_of}
@@ -69,3 +73,16 @@ opens_top os n d p h = ap (map open_of) (last_first os n d p h)
 pub opens_length : (os : List OpenSection) (n : ℕ) → n ≤ length os → length (opens_of os n) ≡ n
 unfolding opens_of
 opens_length os n h = length-map (reverse (take n os)) open_of ∙ length-reverse (take n os) ∙ length-take-le n os h
+
+-- whether a section is among the open ones, in either order
+module _ (g : Ticket) where
+  abbrev pub for_grant : OpenSection → Bool
+  for_grant o = opens_for g (open_of o)
+
+  among_map : (os : List OpenSection) → list_any for_grant os ≡ among_open g (map open_of os)
+  among_map [] = refl
+  among_map (o ∷ os) = ap (λ b. for_grant o || b) (among_map os)
+
+  pub among_any : (os : List OpenSection) (n : ℕ) → list_any for_grant (take n os) ≡ among_open g (opens_of os n)
+  unfolding opens_of
+  among_any os n = list_any-IsPermutation for_grant (take n os) (reverse (take n os)) (IsPermutation-reverse (take n os)) ∙ among_map (reverse (take n os))

@@ -13,17 +13,17 @@ use Rattle.scheduler.specs.declared.stack.Inner.{Inner}
 use Rattle.scheduler.specs.declared.question.Place.{Place}
 use Rattle.scheduler.specs.declared.question.Place.TheVariants.{Waiting as IsWaiting, Released as IsReleased, Stacked as IsStacked}
 use Rattle.scheduler.specs.View.{jobs_of, state_of}
-use Rattle.scheduler.specs.Steady.{job_at, spot_at, stands_at}
+use Rattle.scheduler.specs.Steady.{job_at, spot_at, stands_at, Steady}
 use Rattle.scheduler.specs.Moves.{place_from, place_in}
 use Rattle.scheduler.specs.Fitted.{WaitsIn, ReleasedIn, Listed}
 use Rattle.scheduler.specs.Calls.{stacked, place_of}
-use Rattle.scheduler.proofs.Ghosts.{Ghosts, known}
+use Rattle.scheduler.proofs.Ghosts.{known}
 use Rattle.scheduler.proofs.Queues.{none_of}
 use Rattle.scheduler.proofs.Fits.{released_waits, stacked_waits, stacked_released, others_waiting, others_released}
 use Rattle.scheduler.proofs.Events.{high}
 use Rattle.scheduler.proofs.Grants.{no_jobs, one_job, other_job, stood_at, stood_task}
 
-module _ (k : Records) (i : Inner) (gh : Ghosts k i) (ws : List WaitingEntry) (rs : List ReleasedEntry) (wc rc : ℕ) (li : Listed k i ws rs wc rc) (task : ℕ) where
+module _ (k : Records) (i : Inner) (gh : Steady k i) (ws : List WaitingEntry) (rs : List ReleasedEntry) (wc rc : ℕ) (li : Listed k i ws rs wc rc) (task : ℕ) where
   abbrev waits : Bool
   waits = queued (λ (w : WaitingEntry). w.task) task ws
 
@@ -50,7 +50,7 @@ module _ (k : Records) (i : Inner) (gh : Ghosts k i) (ws : List WaitingEntry) (r
       ap (λ b. chosen false b stands) (sym (li.released_all task lt (sym is)))
       ∙ ap (λ b. chosen b is_out_lem stands) (sym (not_waiting (λ e. released_waits (spot_at i task) (sym is) e)))
   place_by lt (Stacked at) is =
-      let small : task < most_tasks = omega (arith, lt, gh.copied.2) in
+      let small : task < most_tasks = omega (arith, lt, k.copied.2) in
       let at-it = ap (λ (s : Spot). stands_at s at) (sym is) ∙ eq-eqb at at refl in
       let here : stands ≡ true =
       one_job (λ j. eqb j.task task) i.stack i.depth at (high k i gh) (stood_at k i gh task small at (sym is)) (λ q h ne. other_job k i gh task small at (sym is) q h ne)

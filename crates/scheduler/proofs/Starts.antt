@@ -1,5 +1,5 @@
 -- A new core: every task is put into the waiting queue in turn, and what it keeps is sound.
-use Rattle.std.proofs.Common.{◌≡◌, ℕ, zero, suc, ◌+◌, ◌<◌, ◌≤◌, true, false, eqb, leb, ◌≢◌, List, [], ◌∷◌, length, sym, refl, ap, ◌∙◌, inl, inr, add-zero, zero-add, add-one, arith}
+use Rattle.std.proofs.Common.{◌≡◌, ℕ, zero, suc, ◌+◌, ◌<◌, ◌≤◌, true, false, ◌&&◌, eqb, leb, ◌≢◌, List, [], ◌∷◌, length, sym, refl, ap, ◌∙◌, inl, inr, add-zero, zero-add, add-one, arith}
 use Rattle.std.specs.List.{AllByRecursion}
 use Rattle.std.proofs.lemmas.Bool.{cond-false, cases_eq, eq-eqb, eqb-true, leb-true, and_parts, or_left, or_right}
 use Rattle.std.proofs.lemmas.Simd.{get_or-replicate}
@@ -10,11 +10,9 @@ use Rattle.queue.specs.Order.{insert_sorted}
 use Rattle.queue.specs.Answer.{inserted}
 use Rattle.queue.specs.Entries.{waiting_before, waiting_order}
 use Rattle.queue.specs.Meaning.{queued}
-use Rattle.table.specs.Limits.{most_tasks, most_sections}
+use Rattle.table.specs.Limits.{most_tasks}
 use Rattle.table.specs.declared.records.TaskRecord.{TaskRecord}
 use Rattle.table.specs.declared.records.SectionRecord.{SectionRecord}
-use Rattle.admission.specs.Sound.{sound}
-use Rattle.admission.proofs.SoundFacts.{judgeable_if_sound, few_sections}
 use Rattle.machine.specs.State.{Table, Job, first_releases, start}
 use Rattle.machine.specs.Promise.{open_count}
 use Rattle.machine.proofs.Lists.{all_map2}
@@ -22,12 +20,11 @@ use Rattle.scheduler.specs.declared.records.Records.{Records}
 use Rattle.scheduler.specs.declared.stack.StackRecord.{StackRecord}
 use Rattle.scheduler.specs.declared.stack.Spot.TheVariants.{Waiting as Waits}
 use Rattle.scheduler.specs.View.{table_of, tally_of, state_of}
-use Rattle.scheduler.specs.Steady.{Copied, no_record, spot_at, stood_by}
+use Rattle.scheduler.specs.Steady.{no_record, spot_at, stood_by, Steady}
 use Rattle.scheduler.specs.Moves.{fresh}
-use Rattle.scheduler.specs.Fitted.{WaitsIn, Listed, serve}
+use Rattle.scheduler.specs.Fitted.{WaitsIn, Listed}
 use Rattle.scheduler.proofs.Jobs.{jobs_none}
 use Rattle.scheduler.proofs.Facts.{tasks_length}
-use Rattle.scheduler.proofs.Ghosts.{Ghosts}
 use Rattle.scheduler.proofs.Fits.{released_waits}
 use Rattle.scheduler.proofs.Queues.{put_in, none_of}
 
@@ -73,13 +70,12 @@ firsts_at : (n i : ℕ) → AllByRecursion (λ (a : Waiting). a.release ≡ 0) (
 firsts_at zero i = tt
 firsts_at (suc n) i = (refl, firsts_at n (i + 1))
 
-module _ (k : Records) (ok : Copied k) where
+module _ (k : Records) where
   fresh_spot : (t : ℕ) → t < most_tasks → spot_at fresh t ≡ Waits
   fresh_spot t h = get_or-replicate most_tasks t Waits Waits h
 
-  pub fresh_ghosts : Ghosts k fresh
+  pub fresh_ghosts : Steady k fresh
   fresh_ghosts = record {
-    copied = ok;
     tall = (
       refl,
       refl,
@@ -101,10 +97,10 @@ module _ (k : Records) (ok : Copied k) where
         released_room = broad;
         places = omega (arith, firsts_length 0 n);
         waiting = all_map2 (λ (a : Waiting). a.task < n) (λ a. a.release ≡ 0) (WaitsIn k fresh)
-            (λ a lt z. (lt, fresh_spot a.task (omega (arith, lt, ok.2)), omega arith)) (first_releases 0 n) (firsts_below n n 0 (omega arith)) (firsts_at n 0);
+            (λ a lt z. (lt, fresh_spot a.task (omega (arith, lt, k.copied.2)), omega arith)) (first_releases 0 n) (firsts_below n n 0 (omega arith)) (firsts_at n 0);
         released = tt;
         waiting_all = λ t lt _. firsts_queued t n 0 (omega arith) (omega arith);
-        released_all = λ t lt e. absurd (released_waits (spot_at fresh t) e (fresh_spot t (omega (arith, lt, ok.2))));
+        released_all = λ t lt e. absurd (released_waits (spot_at fresh t) e (fresh_spot t (omega (arith, lt, k.copied.2))));
         few = omega arith;
         jobs = omega arith;
       }
@@ -112,26 +108,10 @@ module _ (k : Records) (ok : Copied k) where
   pub fresh_state : (tasks : List TaskRecord) (sections : List SectionRecord) → table_of k ≡ record { tasks = tasks; sections = sections }
       → state_of fresh (first_releases 0 k.sizes.tasks) [] ≡ start (record { tasks = tasks; sections = sections })
   fresh_state tasks sections is =
-      let n : k.sizes.tasks ≡ length tasks = sym (tasks_length k ok) ∙ ap (λ (t : Table). length t.tasks) is in
+      let n : k.sizes.tasks ≡ length tasks = sym (tasks_length k) ∙ ap (λ (t : Table). length t.tasks) is in
       ap (λ m. state_of fresh (first_releases 0 m) []) n
       ∙ ap (λ (js : List Job). record { clock = 0; waiting = first_releases 0 (length tasks); released = []; stack = js; counts = tally_of fresh.counts }) (jobs_none fresh.stack)
 
--- copies of records that break no rule
-pub copied_from :
-    (k : Records) (tasks : List TaskRecord) (sections : List SectionRecord) → sound tasks sections ≡ true → table_of k ≡ record { tasks = tasks; sections = sections }
-    → k.sizes.tasks ≡ length tasks → k.sizes.sections ≡ length sections → length k.tasks ≡ most_tasks → length k.sections ≡ most_sections → Copied k
-copied_from k tasks sections rules is n m wide broad = (
-  wide,
-  broad,
-  omega (arith, (judgeable_if_sound tasks sections rules).few),
-  omega (arith, few_sections tasks sections rules),
-  ap (λ (t : Table). sound t.tasks t.sections) is ∙ rules,
-)
-
--- queues that can serve the tasks
-pub served : (n a b wc rc : ℕ) → serve n a b wc rc ≡ true → (a ≡ 0) × (b ≡ 0) × (n ≤ wc) × (n ≤ rc)
-served n a b wc rc e =
-    let x = and_parts (eqb a 0) _ e in
-    let y = and_parts (eqb b 0) _ x.1 in
-    let z = and_parts (leb n wc) _ y.1 in
-    (eqb-true _ _ x.0, eqb-true _ _ y.0, leb-true _ _ z.0, leb-true _ _ z.1)
+-- a queue that can serve the tasks
+pub served : (a n room : ℕ) → (eqb a 0 && leb n room) ≡ true → (a ≡ 0) × (n ≤ room)
+served a n room e = let p = and_parts (eqb a 0) _ e in (eqb-true _ _ p.0, leb-true _ _ p.1)

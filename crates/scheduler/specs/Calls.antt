@@ -1,6 +1,6 @@
 -- What the calls and the questions of a core answer. A call's answer is the machine's answer to it; a shut core refuses every call and stays as it
 -- is. A refusal that takes no grant hands the same one back.
-use Rattle.std.specs.Prelude.{◌≡◌, ℕ, Bool, false, cond, ◌||◌, List, [], ◌∷◌, Some, None, Ok, Err, Option, Result, ◌==◌}
+use Rattle.std.specs.Prelude.{◌≡◌, ℕ, Bool, false, if◌then◌else◌, ◌||◌, List, [], ◌∷◌, Some, None, Ok, Err, Option, Result, ◌==◌}
 use Rattle.queue.specs.declared.waiting.Waiting.{Waiting as WaitingEntry}
 use Rattle.queue.specs.declared.released.Released.{Released as ReleasedEntry}
 use Rattle.queue.specs.Meaning.{queued}
@@ -9,8 +9,8 @@ use Rattle.machine.specs.declared.call.Refusal.TheVariants.{NotInnermost, NotOpe
 use Rattle.machine.specs.State.{Table, Job, State, inherited}
 use Rattle.machine.specs.State.{Counts as Tally}
 use Rattle.machine.specs.Step.{step}
-use Rattle.scheduler.specs.declared.answer.Answer.{Answer}
-use Rattle.scheduler.specs.declared.answer.Answer.TheVariants.{Advanced, Granted, Running as Runs, Refused}
+use Rattle.machine.specs.declared.call.Answer.{Answer}
+use Rattle.machine.specs.declared.call.Answer.TheVariants.{Advanced, Granted, Running as Runs, Refused}
 use Rattle.scheduler.specs.declared.answer.Refusal.{Refusal}
 use Rattle.scheduler.specs.declared.answer.Refusal.TheVariants.{Shut, Machine}
 use Rattle.scheduler.specs.declared.question.Counts.{Counts}
@@ -24,18 +24,18 @@ use Rattle.scheduler.specs.Answered.{told, refusal_number}
 use Rattle.scheduler.specs.View.{tally_of}
 
 -- what a core answers to a call in a state, and the state that it is left in
-abbrev pub answer_of : Bool → Table → Call → State → Answer
-answer_of live k c s = cond live (told (step k c s).answer) (Refused Shut)
+abbrev pub answer_of : Bool → Table → Call → State → Answer Refusal
+answer_of live k c s = if live then told (step k c s).answer else Refused Shut
 
 abbrev pub state_after : Bool → Table → Call → State → State
-state_after live k c s = cond live (step k c s).state s
+state_after live k c s = if live then (step k c s).state else s
 
 -- the results of the four calls, as answers
-abbrev pub of_advance : Result (ℕ × ℕ × ℕ) Refusal → Answer
+abbrev pub of_advance : {R : Type 0} → Result (ℕ × ℕ × ℕ) R → Answer R
 of_advance (Ok a) = Advanced a
 of_advance (Err r) = Refused r
 
-abbrev pub of_enter : Result Grant Refusal → Answer
+abbrev pub of_enter : {R : Type 0} → Result Grant R → Answer R
 of_enter (Ok g) = Granted g.ticket
 of_enter (Err r) = Refused r
 
@@ -45,11 +45,11 @@ refusal_of (ShutBack g) = Shut
 refusal_of (NotInnermostBack g) = Machine (NotInnermost g.ticket)
 refusal_of Spent = Machine NotOpen
 
-abbrev pub of_leave : Result ℕ LeaveRefusal → Answer
+abbrev pub of_leave : Result ℕ LeaveRefusal → Answer Refusal
 of_leave (Ok i) = Runs i
 of_leave (Err r) = Refused (refusal_of r)
 
-abbrev pub of_finish : Result ℕ Refusal → Answer
+abbrev pub of_finish : {R : Type 0} → Result ℕ R → Answer R
 of_finish (Ok i) = Runs i
 of_finish (Err r) = Refused r
 
@@ -66,7 +66,7 @@ leave_number r = refusal_number (refusal_of r)
 
 -- a question's answer: a shut core refuses
 abbrev pub asked : {X : Type 0} → Bool → X → Result X Refusal
-asked live x = cond live (Ok x) (Err Shut)
+asked live x = if live then Ok x else Err Shut
 
 -- whether a task has a job on the stack
 abbrev pub stacked : ℕ → List Job → Bool
@@ -76,9 +76,10 @@ stacked i (j ∷ js) = j.task == i || stacked i js
 -- where a task is: none for a number outside the table
 abbrev pub place_of : State → ℕ → Option Place
 place_of s i =
-    cond (queued (λ (w : WaitingEntry). w.task) i s.waiting) (Some Waiting)
-    (cond (queued (λ (e : ReleasedEntry). e.task) i s.released) (Some Released)
-    (cond (stacked i s.stack) (Some Stacked) None))
+    if queued (λ (w : WaitingEntry). w.task) i s.waiting then Some Waiting
+    else if queued (λ (e : ReleasedEntry). e.task) i s.released then Some Released
+    else if stacked i s.stack then Some Stacked
+    else None
 
 -- the running task with its deadlines: none where none runs
 abbrev pub running_job : Table → List Job → Option Running

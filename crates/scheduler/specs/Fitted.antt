@@ -1,22 +1,19 @@
--- What ties a core to its two queues, and what is said of a core as a whole. A core's own fields and its queues' lists together are the state of the
--- machine (`view`). `Fitted` is all that a call asks of its caller: the queues are in order, have room for every task and hold no instant that is too late
--- to count with, and their lists fit the core's own fields. `ready` says when queues can serve a table. `Calls` goes on with what calls answer.
-use Rattle.std.specs.Prelude.{◌≡◌, ℕ, ◌+◌, ◌<◌, ◌≤◌, Bool, true, ◌&&◌, List, [], ◌∷◌, length, ◌==◌, nat_le}
+-- What ties a running core to its two queues: they are in order, have room for every task and hold no instant that is too late to count with, and their
+-- lists fit the core's own fields. It is part of the engine's type (`Fitted`): a new core that runs has it, every call keeps it, and no caller is asked for it.
+use Rattle.std.specs.Prelude.{◌≡◌, ℕ, ◌+◌, ◌<◌, ◌≤◌, true, List, [], ◌∷◌, length}
 use Rattle.std.specs.List.{AllByRecursion}
 use Rattle.table.specs.Limits.{largest}
-use Rattle.admission.specs.declared.pass.Pass.{Pass}
 use Rattle.queue.specs.declared.Queue.{Ghosts as Meaning}
 use Rattle.queue.specs.declared.waiting.Waiting.{Waiting}
 use Rattle.queue.specs.declared.released.Released.{Released}
 use Rattle.queue.specs.Meaning.{queued}
 use Rattle.queue.specs.Entries.{waiting_order, released_order}
-use Rattle.machine.specs.State.{Table, Job, State}
+use Rattle.machine.specs.State.{Table, Job}
 use Rattle.scheduler.specs.declared.records.Records.{Records}
 use Rattle.scheduler.specs.declared.stack.Spot.TheVariants.{Waiting as Waits, Released as IsReleased}
 use Rattle.scheduler.specs.declared.stack.Inner.{Inner}
-use Rattle.scheduler.specs.declared.run_core.Core.{Core}
-use Rattle.scheduler.specs.View.{table_of, jobs_of, state_of}
-use Rattle.scheduler.specs.Steady.{spot_at, latest, next_of}
+use Rattle.scheduler.specs.View.{table_of, jobs_of}
+use Rattle.scheduler.specs.Steady.{spot_at, latest, next_of, Steady}
 
 -- a sum over a list
 abbrev pub sum_of : {X : Type 0} → (X → ℕ) → List X → ℕ
@@ -47,25 +44,9 @@ pub record Listed (k : Records) (i : Inner) (ws : List Waiting) (rs : List Relea
   pub few : i.counts.releases ≤ ahead (table_of k) ws rs (jobs_of i.stack i.depth)
   pub jobs : i.counts.releases ≡ i.counts.finishes + i.counts.expiries + length rs + i.depth
 
--- the state of a core: its own fields, and what its two queues hold
-module _ {W R : Type 0} (w : Meaning W Waiting) (r : Meaning R Released) where
-  abbrev pub view : Core W R → State
-  view c = state_of c.inner (w.list c.waiting) (r.list c.released)
-
--- what ties a core to its queues: both are in order and, unless the core is shut, their lists fit its own fields. A new core has it, every call asks for it
--- and keeps it, and nothing else is asked of a caller
-pub record Fitted {W R : Type 0} (w : Meaning W Waiting) (r : Meaning R Released) (c : Core W R) : Type 0 where
-  pub waiting : w.ordered waiting_order c.waiting
-  pub released : r.ordered released_order c.released
-  pub lists : c.live ≡ true → Listed c.records c.inner (w.list c.waiting) (r.list c.released) (w.capacity c.waiting) (r.capacity c.released)
-
--- the table that a pass holds
-abbrev pub pass_table : Pass → Table
-pass_table p = record { tasks = p.tasks.now; sections = p.sections.now }
-
--- whether two queues can serve so many tasks: neither holds an entry, and each has room for every task
-abbrev pub serve : ℕ → ℕ → ℕ → ℕ → ℕ → Bool
-serve tasks waiting released wc rc = waiting == 0 && (released == 0 && (nat_le tasks wc && nat_le tasks rc))
-
-abbrev pub ready : Table → List Waiting → List Released → ℕ → ℕ → Bool
-ready k ws rs wc rc = serve (length k.tasks) (length ws) (length rs) wc rc
+-- all that is true of a running core between any two of its steps
+pub record Fitted {W R : Type 0} (w : Meaning W Waiting) (r : Meaning R Released) (k : Records) (i : Inner) (ws : W) (rs : R) : Type 0 where
+  pub steady : Steady k i
+  pub waiting : w.ordered waiting_order ws
+  pub released : r.ordered released_order rs
+  pub lists : Listed k i (w.list ws) (r.list rs) (w.capacity ws) (r.capacity rs)

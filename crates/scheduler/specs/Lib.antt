@@ -1,7 +1,13 @@
+pub mod Words
+pub mod Copies
+pub mod Kept
 pub mod View
 pub mod Steady
 pub mod Moves
 pub mod Fitted
+pub mod Ready
+pub mod Parts
+pub mod Whole
 pub mod Answered
 pub mod Calls
 pub mod Replayed

@@ -1,6 +1,6 @@
 -- What the inner parts of the core do to its own fields: a job goes onto the stack or off it, a section of the running job is opened or closed, a
 -- task's place is noted, and each is counted.
-use Rattle.std.specs.Prelude.{ℕ, ◌+◌, ◌-◌, ◌^◌, Bool, true, false, cond, ◌&&◌, get_or, replicate, Some, None, Option, ◌==◌, nat_lt, slice_index_or, slice_set}
+use Rattle.std.specs.Prelude.{ℕ, ◌+◌, ◌-◌, ◌^◌, Bool, true, false, if◌then◌else◌, ◌&&◌, replicate, Some, None, Option, ◌==◌, nat_lt, slice_index_or, slice_set}
 use Rattle.table.specs.Limits.{most_tasks, deepest}
 use Rattle.table.specs.declared.records.SectionRecord.{SectionRecord}
 use Rattle.queue.specs.declared.waiting.Waiting.{Waiting as WaitingEntry}
@@ -29,16 +29,16 @@ most = 2 ^ 63
 
 -- the fields with other parts
 abbrev pub with_counts : Inner → Counts → Inner
-with_counts i c = record { clock = i.clock; depth = i.depth; stack = i.stack; spots = i.spots; counts = c }
+with_counts i c = record i { counts = c }
 
 abbrev pub with_spot : Inner → ℕ → Spot → Inner
-with_spot i task spot = record { clock = i.clock; depth = i.depth; stack = i.stack; spots = slice_set i.spots task spot; counts = i.counts }
+with_spot i task spot = record i { spots = slice_set i.spots task spot }
 
 abbrev pub with_top : Inner → StackRecord → Inner
-with_top i r = record { clock = i.clock; depth = i.depth; stack = slice_set i.stack (i.depth - 1) r; spots = i.spots; counts = i.counts }
+with_top i r = record i { stack = slice_set i.stack (i.depth - 1) r }
 
 abbrev pub with_clock : Inner → ℕ → Inner
-with_clock i t = record { clock = t; depth = i.depth; stack = i.stack; spots = i.spots; counts = i.counts }
+with_clock i t = record i { clock = t }
 
 -- the running job, where there is one
 abbrev pub top_of : Inner → StackRecord
@@ -56,95 +56,51 @@ fresh = record {
 
 -- a job more, with nothing open
 abbrev pub pushed : Inner → ℕ → ℕ → Inner
-pushed i task deadline = record {
-  clock = i.clock;
+pushed i task deadline = record i {
   depth = i.depth + 1;
   stack = slice_set i.stack i.depth (record { task = task; deadline = deadline; count = 0; opened = (job_at i i.depth).opened });
   spots = slice_set i.spots task (Stacked i.depth);
-  counts = i.counts;
 }
 
 -- the running job comes off the stack: its task waits
 abbrev pub popped : Inner → Inner
-popped i = record { clock = i.clock; depth = i.depth - 1; stack = i.stack; spots = slice_set i.spots (top_of i).task Waiting; counts = i.counts }
+popped i = record i { depth = i.depth - 1; spots = slice_set i.spots (top_of i).task Waiting }
 
 abbrev pub expired_by : Inner → Inner
-expired_by i = popped (with_counts i (record {
-  releases = i.counts.releases;
-  finishes = i.counts.finishes;
-  expiries = i.counts.expiries + 1;
-  entries = i.counts.entries;
-  leaves = i.counts.leaves;
-  taken = i.counts.taken + (top_of i).count;
-}))
+expired_by i = popped (with_counts i (record i.counts { expiries = i.counts.expiries + 1; taken = i.counts.taken + (top_of i).count }))
 
 abbrev pub finished_by : Inner → Inner
-finished_by i = popped (with_counts i (record {
-  releases = i.counts.releases;
-  finishes = i.counts.finishes + 1;
-  expiries = i.counts.expiries;
-  entries = i.counts.entries;
-  leaves = i.counts.leaves;
-  taken = i.counts.taken;
-}))
+finished_by i = popped (with_counts i (record i.counts { finishes = i.counts.finishes + 1 }))
 
 -- a released job lapses, and a task is released
 abbrev pub lapsed_by : Inner → ℕ → Inner
-lapsed_by i task = with_spot (with_counts i (record {
-  releases = i.counts.releases;
-  finishes = i.counts.finishes;
-  expiries = i.counts.expiries + 1;
-  entries = i.counts.entries;
-  leaves = i.counts.leaves;
-  taken = i.counts.taken;
-})) task Waiting
+lapsed_by i task = with_spot (with_counts i (record i.counts { expiries = i.counts.expiries + 1 })) task Waiting
 
 abbrev pub released_by : Inner → ℕ → Inner
-released_by i task = with_spot (with_counts i (record {
-  releases = i.counts.releases + 1;
-  finishes = i.counts.finishes;
-  expiries = i.counts.expiries;
-  entries = i.counts.entries;
-  leaves = i.counts.leaves;
-  taken = i.counts.taken;
-})) task Released
+released_by i task = with_spot (with_counts i (record i.counts { releases = i.counts.releases + 1 })) task Released
 
 -- the running job enters a section, or leaves its innermost
 abbrev pub with_open : ℕ → ℕ → StackRecord → StackRecord
-with_open x n r = record { task = r.task; deadline = r.deadline; count = r.count + 1; opened = slice_set r.opened r.count (record { section = x; serial = n }) }
+with_open x n r = record r { count = r.count + 1; opened = slice_set r.opened r.count (record { section = x; serial = n }) }
 
 abbrev pub with_closed : StackRecord → StackRecord
-with_closed r = record { task = r.task; deadline = r.deadline; count = r.count - 1; opened = r.opened }
+with_closed r = record r { count = r.count - 1 }
 
 abbrev pub entered_by : Inner → ℕ → Inner
-entered_by i x = with_counts (with_top i (with_open x i.counts.entries (top_of i))) (record {
-  releases = i.counts.releases;
-  finishes = i.counts.finishes;
-  expiries = i.counts.expiries;
-  entries = i.counts.entries + 1;
-  leaves = i.counts.leaves;
-  taken = i.counts.taken;
-})
+entered_by i x = with_counts (with_top i (with_open x i.counts.entries (top_of i))) (record i.counts { entries = i.counts.entries + 1 })
 
 abbrev pub left_by : Inner → Inner
-left_by i = with_counts (with_top i (with_closed (top_of i))) (record {
-  releases = i.counts.releases;
-  finishes = i.counts.finishes;
-  expiries = i.counts.expiries;
-  entries = i.counts.entries;
-  leaves = i.counts.leaves + 1;
-  taken = i.counts.taken;
-})
+left_by i = with_counts (with_top i (with_closed (top_of i))) (record i.counts { leaves = i.counts.leaves + 1 })
 
 -- whether the running job is due at t, the running task or 32 for none, and whether a released task may be pushed
 abbrev pub is_due : Inner → ℕ → Bool
 is_due i t = nat_lt 0 i.depth && (top_of i).deadline == t
 
 abbrev pub running_of : Inner → ℕ
-running_of i = cond (i.depth == 0) most_tasks (top_of i).task
+running_of i = if i.depth == 0 then most_tasks else (top_of i).task
 
 abbrev pub goes_over : Table → Inner → ReleasedEntry → Bool
-goes_over k i e = cond (i.depth == 0) true (nat_lt e.deadline (top_of i).deadline && nat_lt e.relative (inherited k (job_of (top_of i))))
+goes_over k i e = if i.depth == 0 then true else (nat_lt e.deadline (top_of i).deadline && nat_lt e.relative (inherited k (job_of (top_of i))))
 
 -- the entry with which the running task waits once its job has ended
 abbrev pub again_of : Table → Inner → WaitingEntry
@@ -152,11 +108,13 @@ again_of k i = record { release = next_of k (top_of i).task (top_of i).deadline;
 
 -- the instant at which the running job is due, and why an advance to t is refused where the clock and what is due are these
 abbrev pub deadline_of : Inner → Option ℕ
-deadline_of i = cond (i.depth == 0) None (Some (top_of i).deadline)
+deadline_of i = if i.depth == 0 then None else Some (top_of i).deadline
 
 abbrev pub refused_at : ℕ → ℕ → Option ℕ → Option Refusal
 refused_at t clock due =
-    cond (nat_lt t clock) (Some Past) (cond (nat_lt last_instant t) (Some Far) (elim (beyond t due) [ None ↦ None | Some d ↦ Some (BeyondDue d) ]))
+    if nat_lt t clock then Some Past
+    else if nat_lt last_instant t then Some Far
+    else elim (beyond t due) [ None ↦ None | Some d ↦ Some (BeyondDue d) ]
 
 -- the innermost open section of a job, and whether a section is open to entry
 abbrev pub no_open : OpenSection
@@ -166,7 +124,7 @@ abbrev pub last_open : StackRecord → OpenSection
 last_open r = slice_index_or r.opened (r.count - 1) no_open
 
 abbrev pub innermost_of : StackRecord → Option ℕ
-innermost_of r = cond (r.count == 0) None (Some (last_open r).section)
+innermost_of r = if r.count == 0 then None else Some (last_open r).section
 
 abbrev pub no_section : SectionRecord
 no_section = record { task = 0; around = None; small = 0; capital = 0; length = 0; level = None }
@@ -174,16 +132,17 @@ no_section = record { task = 0; around = None; small = 0; capital = 0; length = 
 abbrev pub enterable_at : Records → ℕ → StackRecord → Bool
 enterable_at k x r =
     nat_lt x k.sizes.sections
-    && ((get_or k.sections x no_section).task == r.task && same_place (get_or k.sections x no_section).around (innermost_of r))
+    && ((slice_index_or k.sections x no_section).task == r.task && same_place (slice_index_or k.sections x no_section).around (innermost_of r))
 
 -- why an entry and a finish are refused
 abbrev pub enter_refusal : Records → Inner → ℕ → Option Refusal
 enter_refusal k i x =
-    cond (i.depth == 0) (Some NothingRuns)
-    (cond (enterable_at k x (top_of i)) (cond (nat_lt i.counts.entries most_entries) None (Some TooManyEntries)) (Some NotEnterable))
+    if i.depth == 0 then Some NothingRuns
+    else if enterable_at k x (top_of i) then (if nat_lt i.counts.entries most_entries then None else Some TooManyEntries)
+    else Some NotEnterable
 
 abbrev pub finish_refusal : Inner → Option Refusal
-finish_refusal i = cond (i.depth == 0) (Some NothingRuns) (cond (nat_lt 0 (top_of i).count) (Some StillOpen) None)
+finish_refusal i = if i.depth == 0 then Some NothingRuns else if nat_lt 0 (top_of i).count then Some StillOpen else None
 
 -- whether a grant is the running job's innermost, and whether it is open in the job that its task has on the stack
 abbrev pub innermost_for : Ticket → Inner → Bool
@@ -195,12 +154,13 @@ open_for g i Released = false
 open_for g i (Stacked p) = among_open g (opens_of (job_at i p).opened (job_at i p).count)
 
 abbrev pub opened_for : Ticket → Inner → Bool
-opened_for g i = cond (nat_lt g.task most_tasks) (open_for g i (spot_at i g.task)) false
+opened_for g i = if nat_lt g.task most_tasks then open_for g i (spot_at i g.task) else false
 
 -- the running task with its deadlines
 abbrev pub running_in : Table → Inner → Option Running
 running_in k i =
-    cond (i.depth == 0) None (Some (record { task = (top_of i).task; deadline = (top_of i).deadline; inherited = inherited k (job_of (top_of i)) }))
+    if i.depth == 0 then None
+    else Some (record { task = (top_of i).task; deadline = (top_of i).deadline; inherited = inherited k (job_of (top_of i)) })
 
 -- the place that is noted of a task of the table
 abbrev pub place_from : Spot → Place
@@ -209,4 +169,4 @@ place_from Released = IsReleased
 place_from (Stacked p) = IsStacked
 
 abbrev pub place_in : Records → Inner → ℕ → Option Place
-place_in k i task = cond (nat_lt task k.sizes.tasks) (Some (place_from (spot_at i task))) None
+place_in k i task = if nat_lt task k.sizes.tasks then Some (place_from (spot_at i task)) else None

@@ -7,14 +7,15 @@ use Rattle.machine.specs.State.{Table, State}
 use Rattle.machine.specs.Run.{history, reached}
 use Rattle.machine.specs.Worked.{answers_of}
 use Rattle.machine.specs.Promise.{Promise}
-use Rattle.scheduler.specs.declared.answer.Answer.{Answer}
-use Rattle.scheduler.specs.declared.answer.Answer.TheVariants.{Refused}
+use Rattle.machine.specs.declared.call.Answer.{Answer}
+use Rattle.machine.specs.declared.call.Answer.TheVariants.{Refused}
+use Rattle.scheduler.specs.declared.answer.Refusal.{Refusal}
 use Rattle.scheduler.specs.declared.answer.Refusal.TheVariants.{Shut}
 use Rattle.scheduler.specs.Answered.{told}
 use Rattle.scheduler.specs.Calls.{answer_of, state_after}
 
 -- what a core answers to a list of calls, one answer to a call
-abbrev pub answers_from : Bool → Table → List Call → State → List Answer
+abbrev pub answers_from : Bool → Table → List Call → State → List (Answer Refusal)
 answers_from live k [] s = []
 answers_from live k (c ∷ cs) s = answer_of live k c s ∷ answers_from live k cs (state_after live k c s)
 
@@ -25,11 +26,11 @@ state_from live k (c ∷ cs) s = state_from live k cs (state_after live k c s)
 
 -- what replay leaves of a core that runs: answers and state are the machine's, given the same calls alone, and at the start and after each call
 -- all promises hold
-pub record Ran (k : Table) (cs : List Call) (answers old : List Answer) (s : State) : Type 0 where
+pub record Ran (k : Table) (cs : List Call) (answers old : List (Answer Refusal)) (s : State) : Type 0 where
   pub answered : answers ≡ map told (answers_of (history k cs)) ++ drop (length cs) old
   pub state : s ≡ reached k cs
   pub promised : (n : ℕ) → n ≤ length cs → Promise k (take n cs)
 
 -- what replay leaves of a shut core: every answer is that it is shut
-abbrev pub AllShut : List Call → List Answer → List Answer → Type 0
+abbrev pub AllShut : List Call → List (Answer Refusal) → List (Answer Refusal) → Type 0
 AllShut cs answers old = answers ≡ replicate (length cs) (Refused Shut) ++ drop (length cs) old

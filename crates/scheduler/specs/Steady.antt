@@ -1,8 +1,7 @@
--- What is true of the core's own fields between any two of its steps, whatever its queues hold: arrays keep their lengths, records break no rule, the places
--- of tasks are noted, open sections lie in one another, and entries balance. Each of these is a ghost field of `Core`, so no caller is asked for it.
+-- What is true of a running core's own fields between any two of its steps, whatever its queues hold: arrays keep their lengths, the places of tasks are
+-- noted, open sections lie in one another, and entries balance (`Steady`). All of it is part of the engine's type, so no caller is asked for it.
 use Rattle.std.specs.Prelude.{◌≡◌, ℕ, ◌+◌, ◌-◌, ◌<◌, ◌≤◌, Bool, true, false, ◌&&◌, List, [], ◌∷◌, length, ◌==◌, nat_lt, slice_index_or}
-use Rattle.table.specs.Limits.{most_tasks, most_sections, deepest, largest}
-use Rattle.admission.specs.Sound.{sound}
+use Rattle.table.specs.Limits.{most_tasks, deepest, largest}
 use Rattle.machine.specs.State.{Table, Open, section_at, relative, period}
 use Rattle.machine.specs.Step.{same_place, innermost, last_instant, most_entries}
 use Rattle.machine.specs.Promise.{open_count}
@@ -12,12 +11,6 @@ use Rattle.scheduler.specs.declared.stack.Spot.{Spot}
 use Rattle.scheduler.specs.declared.stack.Spot.TheVariants.{Waiting, Released, Stacked}
 use Rattle.scheduler.specs.declared.stack.Inner.{Inner}
 use Rattle.scheduler.specs.View.{table_of, opens_of, jobs_of}
-
--- no more records are in use than there is room for, and they break no rule
-abbrev pub Copied : Records → Type 0
-Copied k =
-    (length k.tasks ≡ most_tasks) × (length k.sections ≡ most_sections) × (k.sizes.tasks ≤ most_tasks) × (k.sizes.sections ≤ most_sections)
-    × (sound (table_of k).tasks (table_of k).sections ≡ true)
 
 -- the record past the end of an array
 abbrev pub no_record : StackRecord
@@ -81,3 +74,12 @@ Placed i = (t : ℕ) → t < most_tasks → stood_by i t (spot_at i t) ≡ true
 -- every entry was left, was taken back or is still open, and entries can be counted
 abbrev pub Balanced : Inner → Type 0
 Balanced i = (i.counts.entries ≡ i.counts.leaves + i.counts.taken + open_count (jobs_of i.stack i.depth)) × (i.counts.entries ≤ most_entries)
+
+-- all of it
+pub record Steady (k : Records) (i : Inner) : Type 0 where
+  pub tall : Tall i
+  pub known : Known k i
+  pub nested : Nested k i
+  pub noted : Noted i
+  pub placed : Placed i
+  pub balanced : Balanced i

@@ -2,6 +2,7 @@
 ghost use Rattle.std.specs.Prelude.{◌≡◌, Some};
 ghost use Rattle.table.specs.Answer.{spaced};
 ghost use Rattle.scheduler.specs.Answered.{refusal_number, shown_numbers};
+ghost use Rattle.scheduler.specs.declared.answer.Refusal.TheVariants.{Machine};
 
 use machine::call;
 use std::fmt;
@@ -27,6 +28,14 @@ impl Refusal {
     }
 }
 
+impl From<call::Refusal> for Refusal {
+    ghost from_gives = { λ refusal r. r ≡ Machine refusal };
+
+    fn from(refusal: call::Refusal) -> Refusal {
+        Refusal::Machine(refusal)
+    }
+}
+
 /// The number of a refusal, and behind it, one space apart, the instant that is due where it has one. A grant that is handed back is not written.
 impl fmt::Display for Refusal {
     ghost output = { λ r. Some (spaced (shown_numbers r)) };
@@ -40,15 +49,8 @@ impl fmt::Display for Refusal {
     }
 }
 
+/// The number that stands for no task where an answer names the running one.
+pub const NOBODY: u32 = 32;
+
 /// What a core answers to a call.
-#[derive(Clone, Copy, Debug, PartialEq)]
-pub enum Answer {
-    /// An advance: how many jobs expired, how many were released, and the running task, or 32 for none.
-    Advanced((u32, u32, u32)),
-    /// An entry: the numbers of the grant.
-    Granted(call::Ticket),
-    /// A leave or a finish: the running task, or 32 for none.
-    Running(u32),
-    /// A refusal.
-    Refused(Refusal),
-}
+pub type Answer = call::Answer<Refusal>;

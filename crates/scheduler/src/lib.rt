@@ -6,7 +6,9 @@
 #![tactic(auto)]
 
 pub mod answer;
+mod engine;
 pub mod grant;
+mod idle;
 pub mod question;
 mod records;
 pub mod replay;

@@ -1,4 +1,8 @@
 //! What the questions answer.
+ghost use Rattle.std.specs.Prelude.{Some};
+ghost use Rattle.scheduler.specs.Words.{place_word};
+
+use std::fmt;
 
 /// Where a task is.
 #[derive(Clone, Copy, Debug, PartialEq)]
@@ -11,6 +15,19 @@ pub enum Place {
     Stacked,
 }
 
+/// The word for a place: `waiting`, `released` or `stacked`.
+impl fmt::Display for Place {
+    ghost output = { λ place. Some (place_word place) };
+
+    fn fmt<W: fmt::Write>(&self, f: &mut fmt::Formatter<W>) -> fmt::Result {
+        match self {
+            Place::Waiting => write!(f, "waiting"),
+            Place::Released => write!(f, "released"),
+            Place::Stacked => write!(f, "stacked"),
+        }
+    }
+}
+
 /// The running task, with its absolute and its inherited deadline.
 #[derive(Clone, Copy, Debug, PartialEq)]
 pub struct Running {
@@ -20,7 +37,7 @@ pub struct Running {
 }
 
 /// What was counted: jobs that were released, finished, and expired; sections that were entered, left, and taken back one by one.
-#[derive(Clone, Copy, Debug, PartialEq)]
+#[derive(Clone, Copy, Debug, Default, PartialEq)]
 pub struct Counts {
     pub releases: u64,
     pub finishes: u64,

@@ -4,8 +4,9 @@ ghost use Rattle.admission.specs.Passed.{Passed};
 ghost use Rattle.queue.specs.Entries.{waiting_order, released_order};
 ghost use Rattle.scheduler.specs.View.{table_of};
 ghost use Rattle.scheduler.specs.Moves.{fresh};
-ghost use Rattle.scheduler.specs.Fitted.{view, Fitted, pass_table, ready};
-ghost use Rattle.scheduler.specs.Calls.{answer_of, state_after};
+ghost use Rattle.scheduler.specs.Parts.{view};
+ghost use Rattle.scheduler.specs.Ready.{pass_table, ready};
+ghost use Rattle.scheduler.specs.Calls.{answer_of, state_after, refusal_of};
 ghost use Rattle.scheduler.specs.Replayed.{answers_from, state_from, Ran, AllShut};
 
 use crate::answer::{Answer, Refusal};
@@ -24,43 +25,42 @@ pub struct NoRoom<'a, W, R> {
     pub released: R,
 }
 
+/// A refusal to leave without its grant, whose numbers are all that replay keeps of it.
+fn spent(refusal: LeaveRefusal) -> Refusal
+    ensures { result ≡ refusal_of refusal }
+{
+    match refusal {
+        LeaveRefusal::Shut(Grant { ticket: _ }) => Refusal::Shut,
+        LeaveRefusal::NotInnermost(Grant { ticket }) => {
+            Refusal::Machine(call::Refusal::NotInnermost(ticket))
+        }
+        LeaveRefusal::NotOpen => Refusal::Machine(call::Refusal::NotOpen),
+    }
+}
+
 /// Makes one call; a leave names its grant by its three numbers.
 fn make<W: Queue<Entry = Waiting>, R: Queue<Entry = Released>>(
     core: &mut Core<W, R>,
     call: Call,
 ) -> Answer
-    requires { Fitted W.Queue R.Queue core.old }
-    ensures fitted { Fitted W.Queue R.Queue core.new }
     ensures live { core.new.live ≡ core.old.live }
     ensures table { core.new.records ≡ core.old.records }
     ensures shut { core.old.live ≡ false → core.new ≡ core.old }
     ensures value { result ≡ answer_of core.old.live (table_of core.old.records) call (view W.Queue R.Queue core.old) }
     ensures after { view W.Queue R.Queue core.new ≡ state_after core.old.live (table_of core.old.records) call (view W.Queue R.Queue core.old) }
 {
-    match call {
-        Call::Advance(t) => match core.advance(t) {
-            Ok(told) => Answer::Advanced(told),
-            Err(refusal) => Answer::Refused(refusal),
-        },
-        Call::Enter(section) => match core.enter(section) {
-            Ok(Grant { ticket }) => Answer::Granted(ticket),
-            Err(refusal) => Answer::Refused(refusal),
-        },
-        Call::Leave(ticket) => match core.leave(Grant { ticket }) {
-            Ok(task) => Answer::Running(task),
-            Err(LeaveRefusal::Shut(Grant { ticket: _ })) => Answer::Refused(Refusal::Shut),
-            Err(LeaveRefusal::NotInnermost(Grant { ticket })) => {
-                Answer::Refused(Refusal::Machine(call::Refusal::NotInnermost(ticket)))
-            }
-            Err(LeaveRefusal::NotOpen) => {
-                Answer::Refused(Refusal::Machine(call::Refusal::NotOpen))
-            },
-        },
-        Call::Finish => match core.finish() {
-            Ok(task) => Answer::Running(task),
-            Err(refusal) => Answer::Refused(refusal),
-        },
-    }
+    let told = match call {
+        Call::Advance(t) => core.advance(t).map(|told| Answer::Advanced(told)),
+        Call::Enter(section) => core
+            .enter(section)
+            .map(|Grant { ticket }| Answer::Granted(ticket)),
+        Call::Leave(ticket) => core
+            .leave(Grant { ticket })
+            .map(|task| Answer::Running(task))
+            .map_err(spent),
+        Call::Finish => core.finish().map(|task| Answer::Running(task)),
+    };
+    told.unwrap_or_else(|refusal| Answer::Refused(refusal))
 }
 
 /// Makes the calls in their order, and writes down what each answers.
@@ -69,17 +69,15 @@ fn run<W: Queue<Entry = Waiting>, R: Queue<Entry = Released>>(
     calls: &[Call],
     answers: &mut [Answer],
 )
-    requires fitted { Fitted W.Queue R.Queue core.old }
-    requires room { length calls.now ≤ length answers.old }
-    ensures fitted { Fitted W.Queue R.Queue core.new }
+    requires { length calls.now ≤ length answers.old }
     ensures live { core.new.live ≡ core.old.live }
     ensures table { core.new.records ≡ core.old.records }
     ensures shut { core.old.live ≡ false → core.new ≡ core.old }
     ensures value { answers.new ≡ answers_from core.old.live (table_of core.old.records) calls.now (view W.Queue R.Queue core.old) ++ drop (length calls.now) answers.old }
     ensures after { view W.Queue R.Queue core.new ≡ state_from core.old.live (table_of core.old.records) calls.now (view W.Queue R.Queue core.old) }
 {
-    for i in 0..calls.len() {
-        answers[i] = make(core, calls[i]);
+    for (i, call) in calls.iter().enumerate() {
+        answers[i] = make(core, *call);
     }
 }
 
@@ -101,7 +99,6 @@ pub fn replay<'a, W: Queue<Entry = Waiting>, R: Queue<Entry = Released>>(
     requires ordered { W.ordered waiting_order waiting × R.ordered released_order released }
     ensures room { is_ok result ≡ nat_le (length calls.now) (length answers.old) }
     ensures back { IfErr result (λ b. (pass_table b.pass ≡ pass_table pass.entry) × (b.pass.idle ≡ pass.entry.idle) × (b.waiting ≡ waiting) × (b.released ≡ released) × (answers.new ≡ answers.old)) }
-    ensures fitted { IfOk result (Fitted W.Queue R.Queue) }
     ensures table { IfOk result (λ core. table_of core.records ≡ pass_table pass.entry) }
     ensures live { IfOk result (λ core. core.live ≡ ready (pass_table pass.entry) (W.list waiting) (R.list released) (W.capacity waiting) (R.capacity released)) }
     ensures ran { IfOk result (λ core. core.live ≡ true → Ran (pass_table pass.entry) calls.now answers.new answers.old (view W.Queue R.Queue core)) }

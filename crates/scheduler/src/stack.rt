@@ -1,17 +1,15 @@
 //! The core's table of stacked tasks, and what else it keeps of its own.
-ghost use Rattle.std.specs.Prelude.{◌≡◌, ◌+◌, ◌<◌, ◌≤◌, length};
+ghost use Rattle.std.specs.Prelude.{◌≡◌, ◌+◌, ◌<◌, ◌≤◌, MatchOption, take};
 ghost use Rattle.table.specs.Limits.{most_tasks, deepest};
-ghost use Rattle.scheduler.specs.Steady.{Tall};
 ghost use Rattle.machine.specs.Step.{most_entries, opens_for, among_open};
 ghost use Rattle.scheduler.specs.View.{open_of, opens_of};
-ghost use Rattle.scheduler.specs.Moves.{fresh, top_of, most, pushed, expired_by, finished_by, lapsed_by, released_by, entered_by, left_by, is_due, running_of, deadline_of, innermost_of, innermost_for};
+ghost use Rattle.scheduler.specs.Moves.{fresh, top_of, most, pushed, popped, expired_by, finished_by, lapsed_by, released_by, entered_by, left_by, with_clock, is_due, place_from, running_of, deadline_of, last_open, innermost_for};
 
-use crate::question::Counts;
+use crate::answer::NOBODY;
+use crate::question::{Counts, Place};
 use machine::call::Ticket;
+use std::marker::Model;
 use table::limits::{DEEPEST, MOST_TASKS};
-
-/// The number that stands for no task.
-pub const NOBODY: u32 = 32;
 
 /// A section that is open, with the serial of the entry that opened it.
 #[derive(Clone, Copy)]
@@ -27,6 +25,12 @@ impl OpenSection {
     {
         self.section as usize == ticket.section && self.serial == ticket.serial
     }
+
+    /// The section that no job has open.
+    const EMPTY: OpenSection = OpenSection {
+        section: 0,
+        serial: 0,
+    };
 }
 
 /// A job on the stack: its task, its absolute deadline, and its open sections, the outermost first.
@@ -39,30 +43,36 @@ pub struct StackRecord {
 }
 
 impl StackRecord {
-    /// The innermost open section.
-    pub(crate) fn innermost(&self) -> Option<usize>
-        requires { (self.now.count ≤ deepest) × (length self.now.opened ≡ deepest) }
-        ensures { result ≡ innermost_of self.now }
+    /// A job of no task.
+    const EMPTY: StackRecord = StackRecord {
+        task: 0,
+        deadline: 0,
+        count: 0,
+        opened: [OpenSection::EMPTY; DEEPEST],
+    };
+
+    /// The open sections, the outermost first.
+    pub(crate) fn opens(&self) -> &[OpenSection]
+        requires { self.now.count ≤ deepest }
+        ensures { result.now ≡ take self.now.count self.now.opened }
     {
-        let count = self.count;
-        if count == 0 {
-            return None;
-        }
-        Some(self.opened[count - 1].section as usize)
+        &self.opened[..self.count]
+    }
+
+    /// The innermost open section.
+    pub(crate) fn innermost(&self) -> Option<&OpenSection>
+        requires { self.now.count ≤ deepest }
+        ensures { MatchOption result (self.now.count ≡ 0) (λ o. (0 < self.now.count) × (o.now ≡ last_open self.now)) }
+    {
+        self.opens().last()
     }
 
     /// Whether the section of a grant is among the open ones.
     pub(crate) fn holds(&self, ticket: Ticket) -> bool
-        requires { (self.now.count ≤ deepest) × (length self.now.opened ≡ deepest) }
+        requires { self.now.count ≤ deepest }
         ensures { result ≡ among_open ticket (opens_of self.now.opened self.now.count) }
     {
-        let mut found = false;
-        for i in 0..self.count {
-            if self.opened[i].is_for(ticket) {
-                found = true;
-            }
-        }
-        found
+        self.opens().iter().any(|open| open.is_for(ticket))
     }
 }
 
@@ -72,6 +82,18 @@ pub enum Spot {
     Waiting,
     Released,
     Stacked(usize),
+}
+
+impl From<Spot> for Place {
+    ghost from_gives = { λ spot place. place ≡ place_from spot };
+
+    fn from(spot: Spot) -> Place {
+        match spot {
+            Spot::Waiting => Place::Waiting,
+            Spot::Released => Place::Released,
+            Spot::Stacked(_) => Place::Stacked,
+        }
+    }
 }
 
 /// What the core keeps beside its records and its queues. The top of the stack, at `depth - 1`, runs.
@@ -84,40 +106,42 @@ pub struct Inner {
     pub counts: Counts,
 }
 
+impl Model for Inner {
+    ghost use Rattle.std.specs.Prelude.{◌≤◌};
+    ghost use Rattle.table.specs.Limits.{most_tasks};
+    ghost use Rattle.scheduler.specs.Kept.{Kept};
+
+    ghost Value = { Kept };
+
+    ghost view = { λ i. record { clock = i.clock; depth = i.depth; stack = i.stack; spots = i.spots; counts = i.counts } };
+
+    ghost invariant = { λ i. i.depth ≤ most_tasks };
+}
+
 impl Inner {
     /// What a new core keeps: the clock at 0, an empty stack, and nothing counted.
     pub(crate) fn new() -> Inner
         ensures { result ≡ fresh }
     {
-        let nothing = OpenSection {
-            section: 0,
-            serial: 0,
-        };
-        let nobody = StackRecord {
-            task: 0,
-            deadline: 0,
-            count: 0,
-            opened: [nothing; DEEPEST],
-        };
         Inner {
             clock: 0,
             depth: 0,
-            stack: [nobody; MOST_TASKS],
+            stack: [StackRecord::EMPTY; MOST_TASKS],
             spots: [Spot::Waiting; MOST_TASKS],
-            counts: Counts {
-                releases: 0,
-                finishes: 0,
-                expiries: 0,
-                entries: 0,
-                leaves: 0,
-                taken: 0,
-            },
+            counts: Counts::default(),
         }
+    }
+
+    /// The running job.
+    pub(crate) fn top(&self) -> Option<&StackRecord>
+        ensures { MatchOption result (self.now.depth ≡ 0) (λ job. (0 < self.now.depth) × (job.now ≡ top_of self.now)) }
+    {
+        self.stack[..self.depth].last()
     }
 
     /// Puts a job onto the stack.
     pub(crate) fn push(&mut self, task: usize, deadline: u64)
-        requires { Tall self.old × (self.old.depth < most_tasks) × (task < most_tasks) }
+        requires { (self.old.depth < most_tasks) × (task < most_tasks) }
         ensures { self.new ≡ pushed self.old task deadline }
     {
         let depth = self.depth;
@@ -129,36 +153,41 @@ impl Inner {
         self.depth = depth + 1;
     }
 
+    /// Takes the running job off the stack, so that its task waits; answers how many sections it had open.
+    fn pop(&mut self) -> usize
+        requires { (0 < self.old.depth) × ((top_of self.old).task < most_tasks) }
+        ensures open { result ≡ (top_of self.old).count }
+        ensures after { self.new ≡ popped self.old }
+    {
+        self.depth -= 1;
+        let job = &self.stack[self.depth];
+        self.spots[job.task] = Spot::Waiting;
+        job.count
+    }
+
     /// The running job ends at its deadline: it comes off the stack, its open sections are taken back, and its task waits.
     pub(crate) fn expire(&mut self)
-        requires top { Tall self.old × (0 < self.old.depth) × ((top_of self.old).task < most_tasks) × ((top_of self.old).count ≤ deepest) }
+        requires top { (0 < self.old.depth) × ((top_of self.old).task < most_tasks) × ((top_of self.old).count ≤ deepest) }
         requires counts { (self.old.counts.expiries < most) × (self.old.counts.taken + (top_of self.old).count ≤ most_entries) }
         ensures { self.new ≡ expired_by self.old }
     {
-        let top = self.depth - 1;
-        let task = self.stack[top].task;
         self.counts.expiries += 1;
-        self.counts.taken += self.stack[top].count as u32;
-        self.spots[task] = Spot::Waiting;
-        self.depth = top;
+        self.counts.taken += self.pop() as u32;
     }
 
     /// The running job is done: it comes off the stack, and its task waits.
     pub(crate) fn finish(&mut self)
-        requires top { Tall self.old × (0 < self.old.depth) × ((top_of self.old).task < most_tasks) }
+        requires top { (0 < self.old.depth) × ((top_of self.old).task < most_tasks) }
         requires counts { self.old.counts.finishes < most }
         ensures { self.new ≡ finished_by self.old }
     {
-        let top = self.depth - 1;
-        let task = self.stack[top].task;
         self.counts.finishes += 1;
-        self.spots[task] = Spot::Waiting;
-        self.depth = top;
+        self.pop();
     }
 
     /// A released job ends at its deadline, and its task waits.
     pub(crate) fn lapse(&mut self, task: usize)
-        requires { Tall self.old × (task < most_tasks) × (self.old.counts.expiries < most) }
+        requires { (task < most_tasks) × (self.old.counts.expiries < most) }
         ensures { self.new ≡ lapsed_by self.old task }
     {
         self.counts.expiries += 1;
@@ -167,7 +196,7 @@ impl Inner {
 
     /// A task is released.
     pub(crate) fn release(&mut self, task: usize)
-        requires { Tall self.old × (task < most_tasks) × (self.old.counts.releases < most) }
+        requires { (task < most_tasks) × (self.old.counts.releases < most) }
         ensures { self.new ≡ released_by self.old task }
     {
         self.counts.releases += 1;
@@ -176,7 +205,7 @@ impl Inner {
 
     /// The running job enters a section; answers the serial of the entry.
     pub(crate) fn enter(&mut self, section: u32) -> u32
-        requires top { Tall self.old × (0 < self.old.depth) × ((top_of self.old).count < deepest) }
+        requires top { (0 < self.old.depth) × ((top_of self.old).count < deepest) }
         requires counts { self.old.counts.entries < most_entries }
         ensures serial { result ≡ self.old.counts.entries }
         ensures after { self.new ≡ entered_by self.old section }
@@ -191,7 +220,7 @@ impl Inner {
 
     /// The running job leaves its innermost section.
     pub(crate) fn leave(&mut self)
-        requires top { Tall self.old × (0 < self.old.depth) × (0 < (top_of self.old).count) }
+        requires top { (0 < self.old.depth) × (0 < (top_of self.old).count) }
         requires counts { self.old.counts.leaves < most_entries }
         ensures { self.new ≡ left_by self.old }
     {
@@ -200,49 +229,49 @@ impl Inner {
         self.counts.leaves += 1;
     }
 
+    /// The clock goes on to an instant.
+    pub(crate) fn set_clock(&mut self, t: u64)
+        ensures { self.new ≡ with_clock self.old t }
+    {
+        self.clock = t;
+    }
+
     /// Whether the running job is due at an instant.
     pub(crate) fn is_due(&self, t: u64) -> bool
-        requires { Tall self.now }
         ensures { result ≡ is_due self.now t }
     {
-        let depth = self.depth;
-        depth > 0 && self.stack[depth - 1].deadline == t
+        self.top().is_some_and(|job| job.deadline == t)
     }
 
     /// The running task, or 32 for none.
     pub(crate) fn running(&self) -> u32
-        requires { Tall self.now × (0 < self.now.depth → (top_of self.now).task < most_tasks) }
+        requires { 0 < self.now.depth → (top_of self.now).task < most_tasks }
         ensures { result ≡ running_of self.now }
     {
-        let depth = self.depth;
-        if depth == 0 {
-            return NOBODY;
+        match self.top() {
+            Some(job) => job.task as u32,
+            None => NOBODY,
         }
-        self.stack[depth - 1].task as u32
     }
 
     /// The absolute deadline of the running job.
     pub(crate) fn deadline(&self) -> Option<u64>
-        requires { Tall self.now }
         ensures { result ≡ deadline_of self.now }
     {
-        let depth = self.depth;
-        if depth == 0 {
-            return None;
-        }
-        Some(self.stack[depth - 1].deadline)
+        self.top().map(|job| job.deadline)
     }
 
     /// Whether a grant is the running job's innermost.
     pub(crate) fn is_innermost(&self, ticket: Ticket) -> bool
-        requires { Tall self.now × (0 < self.now.depth → (top_of self.now).count ≤ deepest) }
+        requires { 0 < self.now.depth → (top_of self.now).count ≤ deepest }
         ensures { result ≡ innermost_for ticket self.now }
     {
-        let depth = self.depth;
-        if depth == 0 {
+        let Some(job) = self.top() else {
             return false;
-        }
-        let top = &self.stack[depth - 1];
-        top.task == ticket.task && top.count > 0 && top.opened[top.count - 1].is_for(ticket)
+        };
+        let Some(open) = job.innermost() else {
+            return false;
+        };
+        job.task == ticket.task && open.is_for(ticket)
     }
 }

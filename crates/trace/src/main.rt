@@ -6,7 +6,6 @@
 
 ghost use Rattle.admission.specs.Passed.{Passed};
 ghost use Rattle.queue.specs.Entries.{waiting_order, released_order};
-ghost use Rattle.scheduler.specs.Fitted.{Fitted};
 
 use admission::admit::admit;
 use admission::pass::Pass;
@@ -33,9 +32,7 @@ const LONGEST_INPUT: usize = 16_777_216;
 /// Asks a core every question.
 fn ask<W: Queue<Entry = Waiting>, R: Queue<Entry = Released>>(
     core: &Core<W, R>,
-) -> Result<Standing, Refusal>
-    requires { Fitted W.Queue R.Queue core.now }
-{
+) -> Result<Standing, Refusal> {
     let mut places = [None; MOST_TASKS];
     for task in 0..MOST_TASKS {
         places[task] = core.place(task)?;

@@ -73,15 +73,6 @@ pub struct Standing {
     pub counts: Counts,
 }
 
-/// The word for a place.
-fn word(place: Place) -> &'static str {
-    match place {
-        Place::Waiting => "waiting",
-        Place::Released => "released",
-        Place::Stacked => "stacked",
-    }
-}
-
 /// Prints where each task is.
 fn print_places(
     rt: &HostRuntime,
@@ -91,8 +82,8 @@ fn print_places(
     print!(rt; "places")?;
     for (task, place) in places.iter().enumerate() {
         if let Some(place) = place {
-            let (name, word) = (names.of(task), word(*place));
-            print!(rt; " {name} {word}")?;
+            let name = names.of(task);
+            print!(rt; " {name} {place}")?;
         }
     }
     println!(rt)

@@ -2,10 +2,11 @@ use Rattle.std.proofs.Common.{◌≡◌, ◌<◌, Bool, List, ◌++◌, length, 
 use Rattle.std.proofs.lemmas.List.{take_all}
 use Rattle.machine.specs.declared.call.Call.{Call}
 use Rattle.machine.specs.declared.call.Call.TheVariants.{Advance}
-use Rattle.scheduler.specs.declared.answer.Answer.{Answer}
+use Rattle.machine.specs.declared.call.Answer.{Answer}
+use Rattle.scheduler.specs.declared.answer.Refusal.{Refusal}
 use Rattle.machine.specs.State.{Table, State}
 use Rattle.scheduler.specs.View.{table_of}
-use Rattle.scheduler.specs.Fitted.{view}
+use Rattle.scheduler.specs.Parts.{view}
 use Rattle.scheduler.specs.Calls.{answer_of, state_after}
 use Rattle.scheduler.specs.Replayed.{answers_from, state_from}
 use Rattle.scheduler.proofs.Replays.{at_same, state_more, answers_more}
@@ -22,15 +23,14 @@ loop-i-preserved g c =
     let call = get_or cs i (Advance 0) in
     let inv = c.loop-i.invariant in
     let made = c.make.ensures in
-    let room : i < length old = omega arith in (
-      made.fitted,
-      made.live ∙ inv.1,
-      made.table ∙ inv.2,
-      made.after ∙ at_same (λ (b : Bool) (t : Table) (x : State). state_after b t call x) inv.1 inv.2 inv.3 ∙ sym (state_more core.live k cs i (Advance 0) s c.loop-i-test.true),
-      ap (λ (l : List Answer). set l i c.make.result) inv.4
+    let room : i < length old = omega (arith, c.loop-i-test.true, c.requires) in (
+      made.live ∙ inv.0,
+      made.table ∙ inv.1,
+      made.after ∙ at_same (λ (b : Bool) (t : Table) (x : State). state_after b t call x) inv.0 inv.1 inv.2 ∙ sym (state_more core.live k cs i (Advance 0) s c.loop-i-test.true),
+      ap (λ (l : List (Answer Refusal)). set l i c.make.result) inv.3
           ∙ answers_more core.live k cs i (Advance 0) s old c.make.result c.loop-i-test.true room
-          (made.value ∙ at_same (λ (b : Bool) (t : Table) (x : State). answer_of b t call x) inv.1 inv.2 inv.3),
-      λ e. made.shut (inv.1 ∙ e) ∙ inv.5 e,
+          (made.value ∙ at_same (λ (b : Bool) (t : Table) (x : State). answer_of b t call x) inv.0 inv.1 inv.2),
+      λ e. made.shut (inv.0 ∙ e) ∙ inv.4 e,
     )
 
 pub returns : goal.returns
@@ -44,10 +44,9 @@ returns g c =
     let inv = c.loop-i.invariant in
     let all : take i cs ≡ cs = take_all i cs c.loop-i-test.false in
     record {
-      fitted = inv.0;
-      live = inv.1;
-      table = inv.2;
-      shut = inv.5;
-      value = inv.4 ∙ ap (λ (l : List Call). answers_from core.live k l s ++ drop i old) all ∙ ap (λ n. answers_from core.live k cs s ++ drop n old) (omega arith);
-      after = inv.3 ∙ ap (λ (l : List Call). state_from core.live k l s) all;
+      live = inv.0;
+      table = inv.1;
+      shut = inv.4;
+      value = inv.3 ∙ ap (λ (l : List Call). answers_from core.live k l s ++ drop i old) all ∙ ap (λ n. answers_from core.live k cs s ++ drop n old) (omega arith);
+      after = inv.2 ∙ ap (λ (l : List Call). state_from core.live k l s) all;
     }

@@ -1,13 +1,15 @@
-use Rattle.std.proofs.Common.{◌<◌, get_or, sym, ap, ◌∙◌, arith}
+use Rattle.std.proofs.Common.{rules, ◌≡◌, List, get_or, length, sym, ap, ◌∙◌, arith}
+use Rattle.std.proofs.lemmas.List.{get_or-take, length-take-le}
 use Rattle.table.specs.declared.records.TaskRecord.{TaskRecord}
-use Rattle.machine.specs.State.{relative, lowered, or_lower}
+use Rattle.machine.specs.State.{section_at, relative, lowered, or_lower}
+use Rattle.scheduler.specs.declared.stack.OpenSection.{OpenSection}
 use Rattle.scheduler.specs.View.{table_of, opens_of}
 use Rattle.scheduler.proofs.Jobs.{opens_none, opens_more}
 use Rattle.scheduler.proofs.Facts.{no_open, task_at_lem, sections_length, open_within}
 use Rattle.scheduler.proofs.records.Records.inherited.Goals as goal
 
-pub loop-i-init : goal.loop-i-init
-loop-i-init c =
+pub loop-open-init : goal.loop-open-init
+loop-open-init c =
     let k = c.args.self.now in
     let job = c.args.job.now in
     ap (λ (t : TaskRecord). t.deadline) (sym (task_at_lem k job.task c.requires.known.0))
@@ -17,14 +19,28 @@ pub level-requires : goal.level-requires
 level-requires c =
     let k = c.args.self.now in
     let job = c.args.job.now in
-    let lt : (get_or job.opened c.loop-i.i no_open).section < k.sizes.sections =
-    omega (arith, open_within (table_of k) job.opened job.count c.loop-i.i c.requires.nested c.loop-i-test.true (omega arith), sections_length k c.requires.copied) in
-    (c.requires.copied, lt)
+    let i = c.loop-open.open-index in
+    let few = ap length c.opens-open-items.ensures ∙ length-take-le job.count job.opened (omega (arith, c.requires.known.1)) in
+    let at = ap (λ (os : List OpenSection). (get_or os i no_open).section) c.opens-open-items.ensures in
+    let at' = ap (λ (o : OpenSection). o.section) (get_or-take job.count job.opened i no_open (omega (arith, few, c.loop-open-test.true))) in
+    omega (arith, at, at', few, open_within (table_of k) job.opened job.count i c.requires.nested (omega (arith, few, c.loop-open-test.true)) (omega (arith, c.requires.known.1)), sections_length k, c.loop-open-test.true)
 
-pub loop-i-preserved : goal.loop-i-preserved
-loop-i-preserved c =
+pub loop-open-preserved : goal.loop-open-preserved
+loop-open-preserved c =
     let k = c.args.self.now in
     let job = c.args.job.now in
+    let i = c.loop-open.open-index in
     let d = relative (table_of k) job.task in
-    c.lower-least.ensures ∙ ap (λ n. or_lower n c.level.result) c.loop-i.invariant ∙ ap (or_lower (lowered (table_of k) d (opens_of job.opened c.loop-i.i))) c.level.ensures
-    ∙ ap (lowered (table_of k) d) (sym (opens_more job.opened c.loop-i.i no_open (omega arith)))
+    let few = ap length c.opens-open-items.ensures ∙ length-take-le job.count job.opened (omega (arith, c.requires.known.1)) in
+    let lower : c.map_or-least.result ≡ or_lower c.loop-open.least c.level.result = search rules in
+    lower ∙ ap (λ n. or_lower n c.level.result) c.loop-open.invariant ∙ ap (or_lower (lowered (table_of k) d (opens_of job.opened i))) c.level.ensures
+    ∙ ap (λ (os : List OpenSection). or_lower (lowered (table_of k) d (opens_of job.opened i)) (section_at (table_of k) (get_or os i no_open).section).level) c.opens-open-items.ensures
+    ∙ ap (λ (o : OpenSection). or_lower (lowered (table_of k) d (opens_of job.opened i)) (section_at (table_of k) o.section).level) (get_or-take job.count job.opened i no_open (omega (arith, few, c.loop-open-test.true)))
+    ∙ ap (lowered (table_of k) d) (sym (opens_more job.opened i no_open (omega (arith, few, c.loop-open-test.true, c.requires.known.1))))
+
+pub returns : goal.returns
+returns c =
+    let k = c.args.self.now in
+    let job = c.args.job.now in
+    let few = ap length c.opens-open-items.ensures ∙ length-take-le job.count job.opened (omega (arith, c.requires.known.1)) in
+    c.loop-open.invariant ∙ ap (λ n. lowered (table_of k) (relative (table_of k) job.task) (opens_of job.opened n)) (omega (arith, few, c.loop-open-test.false, c.loop-open.auto.open-index-end))

@@ -1,0 +1,92 @@
+use Rattle.std.proofs.Common.{rules, ◌≡◌, ◌+◌, ◌-◌, Some, None, Err, sym, ap, ◌∙◌, arith}
+use Rattle.machine.specs.declared.call.Call.TheVariants.{Advance}
+use Rattle.machine.specs.declared.call.Answer.TheVariants.{Advanced}
+use Rattle.machine.specs.State.{State, running, due}
+use Rattle.machine.specs.Step.{Outcome, step, refused, not_advanced, top_expired, lapsed, released_at, selected, advanced, advanced_answer}
+use Rattle.scheduler.specs.declared.records.Records.{Records}
+use Rattle.scheduler.specs.declared.question.Counts.{Counts}
+use Rattle.scheduler.specs.declared.stack.Inner.{Inner}
+use Rattle.scheduler.specs.View.{table_of, jobs_of, state_of}
+use Rattle.scheduler.specs.Moves.{refused_at}
+use Rattle.scheduler.specs.Parts.{Parts, state_in}
+use Rattle.scheduler.specs.Calls.{of_advance}
+use Rattle.scheduler.proofs.Picks.{running_over}
+use Rattle.scheduler.proofs.Calls.{passed, advance_refused, advance_done, advance_is}
+use Rattle.scheduler.proofs.engine.Engine.advance.Given.{Over}
+use Rattle.scheduler.proofs.engine.Engine.advance.Goals as goal
+
+-- a refused advance is the machine's
+refused_is : (g : Over) (c : goal.After-from_residual g)
+    → let p = c.self.inside in let s = state_of p.inner (g.W.Queue.list p.waiting) (g.R.Queue.list p.released) in
+    step (table_of p.records) (Advance c.args.t) s ≡ refused s c.in_err-check_instant.field-0.0
+refused_is g c =
+    let p = c.self.inside in
+    let s = state_of p.inner (g.W.Queue.list p.waiting) (g.R.Queue.list p.released) in
+    let r = c.in_err-check_instant.field-0.0 in
+    let why : not_advanced c.args.t s ≡ Some r =
+    ap (λ (q : Parts _ _). not_advanced c.args.t (state_in g.W.Queue g.R.Queue q)) c.self.view_is
+    ∙ ap (λ n. refused_at c.args.t n (due (state_in g.W.Queue g.R.Queue c.args.self.now))) (sym c.clock.ensures) ∙ ap (refused_at c.args.t c.clock.result) (sym c.due.ensures)
+    ∙ c.in_err-check_instant.ensures in
+    advance_refused (table_of p.records) c.args.t s r why
+
+pub returns-in_err-check_instant-clause-value : goal.returns-in_err-check_instant-clause-value
+returns-in_err-check_instant-clause-value g c =
+    let err : c.from_residual.result ≡ Err c.in_err-check_instant.field-0.0 = search rules in
+    rw (← c.self.view_is) (ap of_advance err ∙ ap (λ (o : Outcome). o.answer) (sym (refused_is g c)))
+
+pub returns-in_err-check_instant-clause-after : goal.returns-in_err-check_instant-clause-after
+returns-in_err-check_instant-clause-after g c = rw (← c.self.view_is) (ap (λ (o : Outcome). o.state) (sym (refused_is g c)))
+
+-- an advance that is not refused is the machine's, and leaves its state
+module _ (g : Over) (c : goal.After-running g) where
+  abbrev start : State
+  start = state_of c.self.inside.inner (g.W.Queue.list c.self.inside.waiting) (g.R.Queue.list c.self.inside.released)
+
+  abbrev end : State
+  end = state_in g.W.Queue g.R.Queue c.select.new.self
+
+  done_is : step (table_of c.self.inside.records) (Advance c.args.t) start ≡ passed (table_of c.self.inside.records) c.args.t start
+  done_is =
+      let why : not_advanced c.args.t start ≡ None =
+      ap (λ (q : Parts _ _). not_advanced c.args.t (state_in g.W.Queue g.R.Queue q)) c.self.view_is
+      ∙ ap (λ n. refused_at c.args.t n (due (state_in g.W.Queue g.R.Queue c.args.self.now))) (sym c.clock.ensures) ∙ ap (refused_at c.args.t c.clock.result) (sym c.due.ensures)
+      ∙ c.in_ok-check_instant.ensures in
+      advance_done (table_of c.self.inside.records) c.args.t start why
+
+  reached : end ≡ advanced (table_of c.self.inside.records) c.args.t start
+  reached =
+      let t = c.args.t in
+      let see = state_in g.W.Queue g.R.Queue in
+      let s1 = see c.expire_running-ended.new.self in
+      let s2 = see c.lapse-lapsed.new.self in
+      let s3 = see c.release-released.new.self in
+      let r1 = c.expire_running-ended.ensures.records in
+      let r2 = c.lapse-lapsed.ensures.records ∙ r1 in
+      let r3 = c.release-released.ensures.records ∙ r2 in
+      let p = c.self.inside in
+      let on : Inner → State = λ i. top_expired (table_of p.records) t (state_of i (g.W.Queue.list p.waiting) (g.R.Queue.list p.released)) (jobs_of i.stack i.depth) in
+      advance_is (table_of p.records) t start s1 s2 s3 end (c.expire_running-ended.ensures.after ∙ ap on c.set_clock.ensures)
+      (c.lapse-lapsed.ensures.after ∙ ap (λ (x : Records). lapsed (table_of x) t s1 s1.released) r1)
+      (c.release-released.ensures.after ∙ ap (λ (x : Records). released_at (table_of x) t s2 s2.waiting) r2)
+      (c.select.ensures.after ∙ ap (λ (x : Records). selected (table_of x) s3) r3)
+
+pub returns-clause-value : goal.returns-clause-value
+returns-clause-value g c =
+    let s = start g c in
+    let s4 = end g c in
+    let tall = c.self-2.invariant.steady.tall in
+    let ends : c.expire_running-ended.result + c.lapse-lapsed.result ≡ s4.counts.expiries - s.counts.expiries =
+    omega (arith, c.expire_running-ended.ensures.counts.0, ap (λ (i : Inner). i.counts.expiries) c.set_clock.ensures, c.lapse-lapsed.ensures.counts.0, c.release-released.ensures.counts.1, ap (λ (n : Counts). n.expiries) c.select.ensures.counts) in
+    let outs : c.release-released.result ≡ s4.counts.releases - s.counts.releases =
+    omega (arith, c.expire_running-ended.ensures.counts.1, ap (λ (i : Inner). i.counts.releases) c.set_clock.ensures, c.lapse-lapsed.ensures.counts.1, c.release-released.ensures.counts.0, ap (λ (n : Counts). n.releases) c.select.ensures.counts) in
+    let runs : c.running.result ≡ running s4.stack =
+    c.running.ensures ∙ running_over c.self-2.inside.inner (omega (arith, tall.0, tall.2)) ∙ ap (λ (q : Parts _ _). running (jobs_of q.inner.stack q.inner.depth)) c.self-2.view_is in
+    rw (← c.self.view_is)
+    (ap (λ n. Advanced (n, c.release-released.result, c.running.result)) ends
+    ∙ ap (λ n. Advanced (s4.counts.expiries - s.counts.expiries, n, c.running.result)) outs
+    ∙ ap (λ n. Advanced (s4.counts.expiries - s.counts.expiries, s4.counts.releases - s.counts.releases, n)) runs
+    ∙ ap (λ (x : State). advanced_answer s x) (reached g c)
+    ∙ ap (λ (o : Outcome). o.answer) (sym (done_is g c)))
+
+pub returns-clause-after : goal.returns-clause-after
+returns-clause-after g c = rw (← c.self.view_is) (reached g c ∙ ap (λ (o : Outcome). o.state) (sym (done_is g c)))

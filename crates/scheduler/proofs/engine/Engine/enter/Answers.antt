@@ -1,0 +1,103 @@
+use Rattle.std.proofs.Common.{rules, ◌≡◌, ℕ, ◌-◌, Err, Option, sym, refl, ap, ◌∙◌, subst, arith, length-set}
+use Rattle.machine.specs.declared.call.Call.TheVariants.{Enter}
+use Rattle.machine.specs.declared.call.Answer.TheVariants.{Granted}
+use Rattle.machine.specs.declared.call.Refusal.{Refusal}
+use Rattle.machine.specs.Step.{Outcome, step, refused}
+use Rattle.scheduler.specs.declared.stack.Inner.{Inner}
+use Rattle.scheduler.specs.View.{table_of, state_of}
+use Rattle.scheduler.specs.Steady.{Steady, chained}
+use Rattle.scheduler.specs.Moves.{top_of, with_open, entered_by, enter_refusal}
+use Rattle.scheduler.specs.Parts.{Parts}
+use Rattle.scheduler.specs.Calls.{of_enter}
+use Rattle.scheduler.proofs.Jobs.{opens_push}
+use Rattle.scheduler.proofs.Ghosts.{top_ghosts}
+use Rattle.scheduler.proofs.Fits.{top_listed, listed_as}
+use Rattle.scheduler.proofs.Calls.{by_refusal, granted, enter_is, enter_state, enter_some}
+use Rattle.scheduler.proofs.engine.Engine.enter.Given.{Over}
+use Rattle.scheduler.proofs.engine.Engine.enter.Goals as goal
+
+-- a refused entry is the machine's
+refused_is : (g : Over) (c : goal.After-from_residual g)
+    → let p = c.self.inside in let s = state_of p.inner (g.W.Queue.list p.waiting) (g.R.Queue.list p.released) in
+    step (table_of p.records) (Enter c.args.section) s ≡ refused s c.in_err-task.field-0.0
+refused_is g c =
+    let p = c.self.inside in
+    let x = c.args.section in
+    let ws = g.W.Queue.list p.waiting in
+    let rs = g.R.Queue.list p.released in
+    let s = state_of p.inner ws rs in
+    let why = ap (λ (q : Parts _ _). enter_refusal q.records q.inner x) c.self.view_is ∙ c.in_err-task.ensures in
+    enter_is p.records p.inner c.self.invariant.steady ws rs x ∙ ap (λ (o : Option Refusal). by_refusal o s (granted p.records p.inner c.self.invariant.steady ws rs x)) why
+
+pub returns-in_err-task-clause-value : goal.returns-in_err-task-clause-value
+returns-in_err-task-clause-value g c =
+    let err : c.from_residual.result ≡ Err c.in_err-task.field-0.0 = search rules in
+    rw (← c.self.view_is) (ap of_enter err ∙ ap (λ (o : Outcome). o.answer) (sym (refused_is g c)))
+
+pub returns-in_err-task-clause-after : goal.returns-in_err-task-clause-after
+returns-in_err-task-clause-after g c = rw (← c.self.view_is) (ap (λ (o : Outcome). o.state) (sym (refused_is g c)))
+
+pub enter-serial-requires-clause-top : goal.enter-serial-requires-clause-top
+enter-serial-requires-clause-top g c =
+    let p = c.self.inside in
+    let why = ap (λ (q : Parts _ _). enter_refusal q.records q.inner c.args.section) c.self.view_is ∙ c.in_ok-task.ensures.0 in
+    let open-to = enter_some p.records p.inner c.self.invariant.steady c.args.section (sym why) in
+    (open-to.some, open-to.room)
+
+pub invariant_of-self : goal.invariant_of-self
+invariant_of-self g c =
+    let p = c.self.inside in
+    let k = p.records in
+    let i = p.inner in
+    let x = c.args.section in
+    let steady = c.self.invariant.steady in
+    let why = ap (λ (q : Parts _ _). enter_refusal q.records q.inner x) c.self.view_is ∙ c.in_ok-task.ensures.0 in
+    let open-to = enter_some k i steady x (sym why) in
+    let wide = steady.tall.3 (i.depth - 1) (omega (arith, steady.tall.2, open-to.some)) in
+    record {
+      steady = subst (Steady k) (sym c.enter-serial.ensures.after)
+          (top_ghosts k i steady (with_open x i.counts.entries (top_of i)) open-to.some (entered_by i x).counts refl refl (omega (arith, open-to.room))
+          (length-set (top_of i).opened (top_of i).count _ ∙ wide)
+          (ap (chained (table_of k)) (opens_push (top_of i).opened (top_of i).count (record { section = x; serial = i.counts.entries }) (omega (arith, open-to.room, wide))) ∙ open-to.nested)
+          (omega arith) (omega (arith, open-to.counted)));
+      waiting = c.self.invariant.waiting;
+      released = c.self.invariant.released;
+      lists = listed_as c.enter-serial.ensures.after refl refl refl refl
+          (top_listed k i steady _ _ _ _ c.self.invariant.lists (with_open x i.counts.entries (top_of i)) (entered_by i x).counts open-to.some refl refl refl refl refl);
+    }
+
+-- an entry that is not refused is the machine's
+granted_is : (g : Over) (c : goal.After-enter-serial g)
+    → let p = c.self.inside in let ws = g.W.Queue.list p.waiting in let rs = g.R.Queue.list p.released in
+    step (table_of p.records) (Enter c.args.section) (state_of p.inner ws rs) ≡ granted p.records p.inner c.self.invariant.steady ws rs c.args.section
+granted_is g c =
+    let p = c.self.inside in
+    let x = c.args.section in
+    let ws = g.W.Queue.list p.waiting in
+    let rs = g.R.Queue.list p.released in
+    let why = ap (λ (q : Parts _ _). enter_refusal q.records q.inner x) c.self.view_is ∙ c.in_ok-task.ensures.0 in
+    enter_is p.records p.inner c.self.invariant.steady ws rs x
+    ∙ ap (λ (o : Option Refusal). by_refusal o (state_of p.inner ws rs) (granted p.records p.inner c.self.invariant.steady ws rs x)) why
+
+pub returns-clause-value : goal.returns-clause-value
+returns-clause-value g c =
+    let p = c.self.inside in
+    let x = c.args.section in
+    let task = c.in_ok-task.ensures.1 ∙ ap (λ (q : Parts _ _). (top_of q.inner).task) (sym c.self.view_is) in
+    rw (← c.self.view_is)
+    (ap (λ (n : ℕ). Granted (record { task = n; section = x; serial = c.enter-serial.result })) task
+    ∙ ap (λ (n : ℕ). Granted (record { task = (top_of p.inner).task; section = x; serial = n })) c.enter-serial.ensures.serial
+    ∙ ap (λ (o : Outcome). o.answer) (sym (granted_is g c)))
+
+pub returns-clause-after : goal.returns-clause-after
+returns-clause-after g c =
+    let p = c.self.inside in
+    let x = c.args.section in
+    let ws = g.W.Queue.list p.waiting in
+    let rs = g.R.Queue.list p.released in
+    let why = ap (λ (q : Parts _ _). enter_refusal q.records q.inner x) c.self.view_is ∙ c.in_ok-task.ensures.0 in
+    let open-to = enter_some p.records p.inner c.self.invariant.steady x (sym why) in
+    rw (← c.self.view_is)
+    (ap (λ (j : Inner). state_of j ws rs) c.enter-serial.ensures.after
+    ∙ enter_state p.records p.inner c.self.invariant.steady ws rs x open-to.some open-to.room
+    ∙ ap (λ (o : Outcome). o.state) (sym (granted_is g c)))
