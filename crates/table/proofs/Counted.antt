@@ -75,8 +75,3 @@ judged_within text tasks sections (Ok counts) e =
     let p = counted (room_for tasks sections) nothing_read counts 0 (lines_of text) (judged_ok text tasks sections counts (sym e)) in
     (omega (arith, p.tasks_within), omega (arith, p.sections_within))
 judged_within text tasks sections (Err refusal) e = tt
-
--- a result that is known is known where it is Ok
-pub made_is : {X Y : Type 0} (r known : Result X Y) → r ≡ known → IfOk r (λ x. known ≡ Ok x)
-made_is (Ok x) known e = sym e
-made_is (Err y) known e = tt

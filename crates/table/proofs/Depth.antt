@@ -1,7 +1,7 @@
 -- A step goes one deeper at most.
 use Rattle.std.proofs.Common.{◌≡◌, ℕ, ◌+◌, ◌-◌, ◌<◌, ◌≤◌, Bool, cond, ◌&&◌, eqb, ltb, List, length, get_or, drop, Some, None, Option, sym, ap, ◌∙◌, subst, arith}
 use Rattle.std.proofs.lemmas.Bool.{cond_both}
-use Rattle.std.proofs.lemmas.List.{drop_more, drop_all}
+use Rattle.std.proofs.lemmas.List.{drop_more}
 use Rattle.table.specs.declared.form.Field.{Field}
 use Rattle.table.specs.declared.form.Field.TheVariants.{Deadline, Period, Cost}
 use Rattle.table.specs.declared.form.State.{State}
@@ -54,6 +54,3 @@ turn s i xs m lt is = ap (broken_at s i) (drop_more xs i 0 lt) ∙ ap (λ x. go_
 
 pub kept : (s s' : State) (b : ℕ) → Go s' ≡ stepped s b → depth_of s' ≤ depth_of s + 1
 kept s s' b is = subst (Within (depth_of s + 1)) (sym is) (deeper s b)
-
-pub at_end : (s : State) (i : ℕ) (xs : List ℕ) → length xs ≤ i → i ≤ length xs → Some (length xs) ≡ broken_at s i (drop i xs)
-at_end s i xs past within = ap Some (let e : length xs ≡ i = omega arith in e) ∙ ap (broken_at s i) (sym (drop_all i xs past))
