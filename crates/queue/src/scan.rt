@@ -21,7 +21,12 @@ pub(super) fn room(lent: usize) -> usize
 fn holds<E: QueueEntry>(used: &[E], task: usize) -> bool
     ensures { result ≡ queued E.order.task_of task used.now }
 {
-    used.iter().any(|e| e.task() == task)
+    for e in used {
+        if e.task() == task {
+            return true;
+        }
+    }
+    false
 }
 
 /// Whether the entry can join those in use: that its task is not fit counts before that there is no room.
