@@ -25,7 +25,7 @@ pub use heap_queue::HeapQueue;
 pub use list_queue::ListQueue;
 pub use refusal::Refusal;
 pub use released::Released;
-pub use runs::{Answer, Call, both};
+pub use runs::{Answer, Call, Mismatch, both};
 pub use waiting::Waiting;
 
 /// A queue of entries of at most 32 tasks, the first entry first.
