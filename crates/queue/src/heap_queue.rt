@@ -11,6 +11,7 @@ use super::{Queue, QueueEntry, Refusal, scan};
 /// The first `len` of the lent entries, as a heap: no entry comes before the one above it.
 ///
 /// `first` reads one entry; `insert` and `take` compare one entry, or two, on each of the log of `len` levels that they pass.
+/// The ordered list has the same fields: a struct for both would only put one more call before each method of one line.
 #[derive(Drop)]
 pub struct HeapQueue<'a, E> {
     entries: &'a mut [E],
@@ -32,6 +33,7 @@ fn sift_up<E: QueueEntry>(entries: &mut [E])
     ensures shape { Heap E.order.before entries.new (length entries.old) }
     ensures same { sorted E.order.before entries.new ≡ sorted E.order.before entries.old }
 {
+    // The places of a path up, each from the one before it: no iterator over the entries gives them.
     let mut i = entries.len() - 1;
     while i > 0 {
         let parent = parent_of(i);
@@ -63,6 +65,7 @@ fn sift_down<E: QueueEntry>(entries: &mut [E])
     ensures shape { Heap E.order.before entries.new (length entries.old) }
     ensures same { sorted E.order.before entries.new ≡ sorted E.order.before entries.old }
 {
+    // A path down, which each comparison decides anew.
     let mut i = 0;
     while 2 * i + 1 < entries.len() {
         let child = least_child(entries, i);

@@ -41,6 +41,7 @@ fn run<Q: Queue>(calls: &[Call<Q::Entry>], q: &mut Q, answers: &mut [Answer<Q::E
     ensures value { answers.new ≡ answers_to Q.Entry.order (Q.capacity q.old) calls.now (Q.list q.old) }
     ensures after { Q.list q.new ≡ list_after_all Q.Entry.order (Q.capacity q.old) calls.now (Q.list q.old) }
 {
+    // By number: of what `answers.iter_mut().zip(calls)` lends, nothing is known after the loop.
     for (i, call) in calls.iter().enumerate() {
         answers[i] = make(*call, q);
     }

@@ -21,6 +21,7 @@ pub(super) fn room(lent: usize) -> usize
 fn holds<E: QueueEntry>(used: &[E], task: usize) -> bool
     ensures { result ≡ queued E.order.task_of task used.now }
 {
+    // By a loop: `any` takes one instruction more for each entry, about 6 % of a whole insert and take.
     for e in used {
         if e.task() == task {
             return true;
