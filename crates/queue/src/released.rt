@@ -26,10 +26,12 @@ impl Released {
 impl QueueEntry for Released {
     ghost order = { released_order };
 
-    ghost less = { Prim.search rules };
-
     // Three fields are too many for the search, and the laws of `cmp` give what it lacks.
     ghost total = { total_by_cmp released_before ⟦<Released as Ord>⟧.cmp (Prim.search (comparing, rules)) (Prim.search rules) (Prim.search rules) };
+
+    fn is_before(self, other: Released) -> bool {
+        self < other
+    }
 
     fn task(self) -> usize {
         self.task

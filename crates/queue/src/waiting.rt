@@ -22,9 +22,11 @@ impl Waiting {
 impl QueueEntry for Waiting {
     ghost order = { waiting_order };
 
-    ghost less = { Prim.search rules };
-
     ghost total = { Prim.search rules };
+
+    fn is_before(self, other: Waiting) -> bool {
+        self < other
+    }
 
     fn task(self) -> usize {
         self.task
