@@ -1,7 +1,7 @@
 //! A few answers that are worked out by hand.
 use admission::admit::admit;
 use admission::refusal::Refusal as Unfit;
-use queue::{Answer, Call, HeapQueue, ListQueue, QueueEntry, Released, Waiting, both};
+use queue::{Answer, Call, HeapQueue, ListQueue, Mismatch, QueueEntry, Released, Waiting, both};
 use table::limits::{MOST_SECTIONS, MOST_TASKS};
 use table::read::read;
 use table::records::{Counts, SectionRecord, Span, TaskRecord};
@@ -106,7 +106,7 @@ fn answer_calls<E: QueueEntry>(
     calls: &[Call<E>],
     entries: (&mut [E], &mut [E]),
     answers: (&mut [Answer<E>], &mut [Answer<E>]),
-) -> bool {
+) -> Result<(), Mismatch> {
     let (in_list, in_heap) = entries;
     let (from_list, from_heap) = answers;
     let mut list = ListQueue::new(in_list);
@@ -137,12 +137,13 @@ fn both_queues_give_out_waiting_tasks_alike(rt: HostRuntime) {
     let (mut in_list, mut in_heap) = ([first; 3], [first; 3]);
     let mut from_list = [Answer::Taken(None); 6];
     let mut from_heap = [Answer::Taken(None); 6];
-    assert!(rt;
+    assert_eq!(rt;
         answer_calls(
             &calls,
             (&mut in_list, &mut in_heap),
             (&mut from_list, &mut from_heap),
-        )
+        ),
+        Ok(())
     );
     assert_eq!(rt;
         (taken(from_list[3]), taken(from_heap[3])),
@@ -184,12 +185,13 @@ fn both_queues_give_out_released_tasks_alike(rt: HostRuntime) {
     let (mut in_list, mut in_heap) = ([first; 3], [first; 3]);
     let mut from_list = [Answer::Taken(None); 6];
     let mut from_heap = [Answer::Taken(None); 6];
-    assert!(rt;
+    assert_eq!(rt;
         answer_calls(
             &calls,
             (&mut in_list, &mut in_heap),
             (&mut from_list, &mut from_heap),
-        )
+        ),
+        Ok(())
     );
     assert_eq!(rt;
         (taken(from_list[3]), taken(from_heap[3])),

@@ -1,6 +1,7 @@
 -- The steps of a heap, and what its root is to its list. Assumes nothing.
-use Rattle.std.proofs.Common.{◌≡◌, ℕ, zero, suc, ◌+◌, ◌-◌, ◌*◌, ◌/◌, ◌<◌, ◌≤◌, Bool, true, false, ◌≢◌, List, [], ◌∷◌, length, get_or, take, set, Some, sym, refl, ap, ◌∙◌, ⊎_elim, arith}
-use Rattle.std.proofs.lemmas.List.{get_or-set_same, get_or-set_other, length-set, get_or_read, get_or-take, length-take, take_more, take_more_set}
+use Rattle.std.proofs.Common.{◌≡◌, ℕ, zero, suc, ◌+◌, ◌-◌, ◌*◌, ◌/◌, ◌<◌, ◌≤◌, Bool, true, false, List, [], ◌∷◌, ◌++◌, length, get_or, take, set, sym, refl, ap, ◌∙◌, ⊎_elim, arith}
+use Rattle.std.specs.List.{SwappedAt, slice_get}
+use Rattle.std.proofs.lemmas.List.{get_or_append_left, get_or_read, get_or-take, length-take, take_more, take_more_set}
 use Rattle.std.proofs.ByRecursion.{All-from_get_or}
 use Rattle.std.proofs.lemmas.List.Edits.{Swapped}
 use Rattle.std.proofs.lemmas.Bool.{cases_eq}
@@ -9,15 +10,6 @@ use Rattle.queue.specs.Meaning.{first_of, rest_of}
 use Rattle.queue.specs.Heaps.{Child, Heap, Above, Beneath, Across, Least}
 use Rattle.queue.proofs.Putting.{not_before, asym}
 use Rattle.queue.proofs.Multiset.{sorted_first, sorted_push}
-
-pub swapped_reads : {E : Type 0} (s : List E) (i j : ℕ) (x y d : E) → i < length s → j < length s → i ≢ j → x ≡ get_or s i x → y ≡ get_or s j y
-    → Swapped (λ k. get_or s k d) (λ k. get_or (set (set s i y) j x) k d) i j
-swapped_reads s i j x y d p q ne rx ry =
-    let long : j < length (set s i y) = omega (arith, length-set s i y) in (
-      get_or-set_other (set s i y) j i x d ne ∙ get_or-set_same s i y d p ∙ get_or_read s j y q ry d,
-      get_or-set_same (set s i y) j x d long ∙ get_or_read s i x p rx d,
-      λ m mi mj. get_or-set_other (set s i y) j m x d mj ∙ get_or-set_other s i m y d mi,
-    )
 
 module _ {E : Type 0} (before : E → E → Bool) (o : Total before) (f f' : ℕ → E) (n : ℕ) where
   at2 : (c q : ℕ) (u v : E) → f' c ≡ u → f' q ≡ v → before u v ≡ false → before (f' c) (f' q) ≡ false
@@ -97,16 +89,16 @@ module _ {E : Type 0} (before : E → E → Bool) (o : Total before) (s : List E
   read2 t i j x y d p q rx ry h =
       ap (λ z. before z (get_or s j d)) (sym (get_or_read s i x p rx d)) ∙ ap (before x) (sym (get_or_read s j y q ry d)) ∙ h
 
-  module _ (i p : ℕ) (x y : E) (ip : i < length s) (pp : p < length s) (rx : x ≡ get_or s i x) (ry : y ≡ get_or s p y) (ch : Child p i) (less : before x y ≡ true) (within : i < n)
-      (ab : Above before s n i) (ac : Across before s n i) where
-    pub step_above : Above before (set (set s i y) p x) n p
+  module _ (s' : List E) (i p : ℕ) (x y : E) (ip : i < length s) (pp : p < length s) (rx : x ≡ get_or s i x) (ry : y ≡ get_or s p y) (ch : Child p i) (sw : SwappedAt s s' i p)
+      (less : before x y ≡ true) (within : i < n) (ab : Above before s n i) (ac : Across before s n i) where
+    pub step_above : Above before s' n p
     step_above q c d =
-        up_above before o (λ k. get_or s k d) (λ k. get_or (set (set s i y) p x) k d) n i p (swapped_reads s i p x y d ip pp (λ e. omega arith) rx ry) ch
+        up_above before o (λ k. get_or s k d) (λ k. get_or s' k d) n i p (sw.0 d, sw.1 d, λ k. sw.2 k d) ch
         (read2 true i p x y d ip pp rx ry less) within (λ q' c'. ab q' c' d) (λ q' c'. ac q' c' d) q c
 
-    pub step_across : Across before (set (set s i y) p x) n p
+    pub step_across : Across before s' n p
     step_across q c d =
-        up_across before o (λ k. get_or s k d) (λ k. get_or (set (set s i y) p x) k d) n i p (swapped_reads s i p x y d ip pp (λ e. omega arith) rx ry) ch
+        up_across before o (λ k. get_or s k d) (λ k. get_or s' k d) n i p (sw.0 d, sw.1 d, λ k. sw.2 k d) ch
         (read2 true i p x y d ip pp rx ry less) within (λ q' c'. ab q' c' d) (λ q' c'. ac q' c' d) q c
 
   module _ (i m : ℕ) (x y : E) (ip : i < length s) (mp : m < length s) (rx : x ≡ get_or s i x) (ry : y ≡ get_or s m y) (least : Least before s n i m)
@@ -120,15 +112,15 @@ module _ {E : Type 0} (before : E → E → Bool) (o : Total before) (s : List E
         (λ (ne : p ≡ i → ⊥). be p c d ch lt ne)
         (cases_eq p i)
 
-    module _ (less : before y x ≡ true) (ac : Across before s n i) where
-      pub step_beneath : Beneath before (set (set s i y) m x) n m
+    module _ (s' : List E) (sw : SwappedAt s s' i m) (less : before y x ≡ true) (ac : Across before s n i) where
+      pub step_beneath : Beneath before s' n m
       step_beneath q c d =
-          down_beneath before o (λ k. get_or s k d) (λ k. get_or (set (set s i y) m x) k d) n i m (swapped_reads s i m x y d ip mp (λ e. omega arith) rx ry) least.0 least.1
+          down_beneath before o (λ k. get_or s k d) (λ k. get_or s' k d) n i m (sw.0 d, sw.1 d, λ k. sw.2 k d) least.0 least.1
           (read2 true m i y x d mp ip ry rx less) (λ c'. least.2 c' d) (λ q' c'. be q' c' d) (λ q' c'. ac q' c' d) q c
 
-      pub step_across_down : Across before (set (set s i y) m x) n m
+      pub step_across_down : Across before s' n m
       step_across_down q c d =
-          down_across before o (λ k. get_or s k d) (λ k. get_or (set (set s i y) m x) k d) n i m (swapped_reads s i m x y d ip mp (λ e. omega arith) rx ry) least.0 least.1
+          down_across before o (λ k. get_or s k d) (λ k. get_or s' k d) n i m (sw.0 d, sw.1 d, λ k. sw.2 k d) least.0 least.1
           (read2 true m i y x d mp ip ry rx less) (λ c'. least.2 c' d) (λ q' c'. be q' c' d) (λ q' c'. ac q' c' d) q c
 
   pub least_right : (i : ℕ) (x y : E) → 2 * i + 1 + 1 < n → n ≤ length s → x ≡ get_or s (2 * i + 1 + 1) x → y ≡ get_or s (2 * i + 1) y → before x y ≡ true → Least before s n i (2 * i + 1 + 1)
@@ -152,10 +144,11 @@ module _ {E : Type 0} (before : E → E → Bool) (o : Total before) where
       (λ k lt. let kn : k < n = omega (arith, length-take n s) in
       ap (λ y. before y x) (get_or-take n s k x kn) ∙ root_first before o (x ∷ s) (suc n) x heap (suc k) (omega arith)))
 
-  pub heap_first : (s : List E) (len : ℕ) (d : E) → 0 < len → len ≤ length s → Heap before s len → Some (get_or s 0 d) ≡ first_of (sorted before (take len s))
-  heap_first [] len d pos le heap = absurd (omega arith)
-  heap_first (x ∷ s) zero d pos le heap = absurd (omega arith)
-  heap_first (x ∷ s) (suc n) d pos le heap = sym (ap first_of (heap_list_lem x s n le heap))
+  pub heap_first : (s : List E) (len : ℕ) → len ≤ length s → Heap before s len → slice_get (take len s) 0 ≡ first_of (sorted before (take len s))
+  heap_first [] zero le heap = refl
+  heap_first [] (suc n) le heap = absurd (omega arith)
+  heap_first (x ∷ s) zero le heap = refl
+  heap_first (x ∷ s) (suc n) le heap = sym (ap first_of (heap_list_lem x s n le heap))
 
   rest_at : (x : E) (s : List E) (n : ℕ) (d : E) → n ≤ length s → sorted before (take n (set (x ∷ s) 0 (get_or (x ∷ s) n d))) ≡ sorted before (take n s)
   rest_at x s zero d le = refl
@@ -173,9 +166,8 @@ module _ {E : Type 0} (before : E → E → Bool) (o : Total before) where
   pub heap_insert : (s : List E) (len : ℕ) (e : E) → len < length s → sorted before (take (len + 1) (set s len e)) ≡ insert_sorted before e (sorted before (take len s))
   heap_insert s len e lt = ap (sorted before) (take_more_set s len e lt) ∙ sorted_push before o (take len s) e
 
-  -- a heap with one entry more at its end is a heap but for that entry
-  pub heap_above : (s : List E) (len : ℕ) (e : E) → Heap before s len → Above before (set s len e) (len + 1) len
-  heap_above s len e heap p c d ch lt ne =
-      let low : p ≡ len → ⊥ = λ q. omega arith in
-      ap (λ x. before x (get_or (set s len e) p d)) (get_or-set_other s len c e d ne)
-      ∙ ap (before (get_or s c d)) (get_or-set_other s len p e d low) ∙ heap p c d ch (let in' : c < len = omega arith in in')
+-- a heap is one in front of other entries
+pub used_heap : {E : Type 0} (before : E → E → Bool) (s rest : List E) (n : ℕ) → n ≡ length s → Heap before s (length s) → Heap before (s ++ rest) n
+used_heap before s rest n size heap p c d ch lt =
+    let read : (k : ℕ) → k < length s → get_or (s ++ rest) k d ≡ get_or s k d = get_or_append_left s rest d in
+    ap (λ x. before x (get_or (s ++ rest) p d)) (read c (omega arith)) ∙ ap (before (get_or s c d)) (read p (omega arith)) ∙ heap p c d ch (omega arith)

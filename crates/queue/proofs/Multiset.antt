@@ -1,17 +1,11 @@
 -- Sorting does not see in which order its entries stand. Assumes nothing.
-use Rattle.std.proofs.Common.{◌≡◌, ℕ, zero, suc, ◌<◌, ◌≤◌, Bool, true, false, cond, ◌≢◌, List, [], ◌∷◌, ◌++◌, length, get_or, take, set, sym, refl, ap, ◌∙◌, ⊎_elim, arith}
-use Rattle.std.specs.List.{AllByRecursion}
-use Rattle.std.proofs.lemmas.List.{get_or-take, set-get_or, length-take-le}
+use Rattle.std.proofs.Common.{◌≡◌, ℕ, zero, suc, ◌<◌, Bool, true, false, cond, ◌≢◌, List, [], ◌∷◌, ◌++◌, length, get_or, set, sym, refl, ap, ◌∙◌, ⊎_elim, arith}
+use Rattle.std.specs.List.{AllByRecursion, SwappedAt}
+use Rattle.std.proofs.lemmas.List.{set-get_or}
 use Rattle.std.proofs.lemmas.Bool.{cases_Bool, cond-true, cond-false}
 use Rattle.queue.specs.Order.{Total, insert_sorted, sorted}
 use Rattle.queue.proofs.Putting.{not_before, asym}
 use Rattle.queue.proofs.Sounding.{all_insert}
-
-pub take-set_in : {E : Type 0} (n : ℕ) (l : List E) (i : ℕ) (a : E) → take n (set l i a) ≡ set (take n l) i a
-take-set_in zero l i a = refl
-take-set_in (suc n) [] i a = refl
-take-set_in (suc n) (x ∷ l) zero a = refl
-take-set_in (suc n) (x ∷ l) (suc i) a = ap (λ r. x ∷ r) (take-set_in n l i a)
 
 module _ {E : Type 0} (before : E → E → Bool) where
   ins_here : (e x : E) (xs : List E) → before e x ≡ true → insert_sorted before e (x ∷ xs) ≡ e ∷ x ∷ xs
@@ -83,14 +77,12 @@ module _ {E : Type 0} (before : E → E → Bool) where
     sort_swap (x ∷ xs) (suc i) zero a b p q ne = put_out xs i b a (omega arith)
     sort_swap (x ∷ xs) (suc i) (suc j) a b p q ne = ap (insert_sorted before x) (sort_swap xs i j a b (omega arith) (omega arith) (λ e. ne (ap suc e)))
 
-    pub sorted_swapped : (s : List E) (n i j : ℕ) (x y : E) → i < n → j < n → n ≤ length s → i ≢ j → x ≡ get_or s i x → y ≡ get_or s j y → sorted before (take n (set (set s i y) j x)) ≡ sorted before (take n s)
-    sorted_swapped s n i j x y p q le ne rx ry =
-        let t : List E = take n s in
-        let long : length t ≡ n = length-take-le n s le in
-        let kx : set t i x ≡ t = ap (set t i) (rx ∙ sym (get_or-take n s i x p)) ∙ set-get_or t i x in
-        let ky : set t j y ≡ t = ap (set t j) (ry ∙ sym (get_or-take n s j y q)) ∙ set-get_or t j y in
-        ap (sorted before) (take-set_in n (set s i y) j x ∙ ap (λ l. set l j x) (take-set_in n s i y))
-        ∙ sort_swap t i j y x (omega arith) (omega arith) ne ∙ ap (λ l. sorted before (set l j y)) kx ∙ ap (sorted before) ky
+    pub sorted_swapped : (s s' : List E) (i j : ℕ) → i < length s → j < length s → i ≢ j → SwappedAt s s' i j → sorted before s' ≡ sorted before s
+    sorted_swapped [] s' i j p q ne sw = absurd (omega arith)
+    sorted_swapped (d ∷ r) s' i j p q ne sw =
+        let s : List E = d ∷ r in
+        ap (sorted before) (sw.3 d) ∙ sort_swap s i j (get_or s j d) (get_or s i d) p q ne
+        ∙ ap (λ l. sorted before (set l j (get_or s j d))) (set-get_or s i d) ∙ ap (sorted before) (set-get_or s j d)
 
     -- what nothing comes before stands first
     pub ins_first : (x : E) (ys : List E) → AllByRecursion (λ y. before y x ≡ false) ys → insert_sorted before x ys ≡ x ∷ ys

@@ -93,12 +93,12 @@ module _ {E : Type 0} (o : Order E) (capacity : ℕ) where
 
   -- one call more of a run, and its end
   module _ (cs : List (Call E)) (out : List (Answer E)) (i : ℕ) where
-    pub run_more : (c : Call E) (a : Answer E) (next : List (Answer E)) (xs ys : List E) → next ≡ set out i a → i < length cs → i < length out → c ≡ get_or cs i c → a ≡ answer_to o capacity c xs → ys ≡ list_after o capacity c xs
-        → (take (i + 1) next ++ answers_to o capacity (drop (i + 1) cs) ys ≡ take i out ++ answers_to o capacity (drop i cs) xs)
+    pub run_more : (c : Call E) (a : Answer E) (xs ys : List E) → i < length cs → i < length out → c ≡ get_or cs i c → a ≡ answer_to o capacity c xs → ys ≡ list_after o capacity c xs
+        → (take (i + 1) (set out i a) ++ answers_to o capacity (drop (i + 1) cs) ys ≡ take i out ++ answers_to o capacity (drop i cs) xs)
         × (list_after_all o capacity (drop (i + 1) cs) ys ≡ list_after_all o capacity (drop i cs) xs)
-    run_more c a next xs ys written lt room read value after =
+    run_more c a xs ys lt room read value after =
         let left : drop i cs ≡ c ∷ drop (i + 1) cs = drop_more cs i c lt ∙ ap (λ d. d ∷ drop (i + 1) cs) (sym read) in (
-          ap (λ l. l ++ answers_to o capacity (drop (i + 1) cs) ys) (ap (take (i + 1)) written ∙ take_more_set out i a room)
+          ap (λ l. l ++ answers_to o capacity (drop (i + 1) cs) ys) (take_more_set out i a room)
               ∙ append_assoc (take i out) (a ∷ []) (answers_to o capacity (drop (i + 1) cs) ys)
               ∙ ap (λ b. take i out ++ b ∷ answers_to o capacity (drop (i + 1) cs) ys) value
               ∙ ap (λ l. take i out ++ answer_to o capacity c xs ∷ answers_to o capacity (drop (i + 1) cs) l) after

@@ -1,6 +1,6 @@
 -- Moving every entry of a list one place back, entry by entry. Assumes nothing.
 use Rattle.std.proofs.Common.{◌≡◌, ℕ, ◌+◌, ◌-◌, ◌<◌, List, [], ◌∷◌, ◌++◌, length, get_or, take, drop, set, sym, ap, ◌∙◌, arith}
-use Rattle.std.proofs.lemmas.List.{take_more, take_more_set, get_or-drop, drop-drop, drop-set-lt, drop-take, length-drop}
+use Rattle.std.proofs.lemmas.List.{take_more, take_more_set, get_or-drop, drop-drop, drop-set-lt, take_all, length-drop}
 
 -- the entries in front of i are moved, and the others stand where they stood
 abbrev pub Shifted : {E : Type 0} → List E → List E → ℕ → Type 0
@@ -19,7 +19,6 @@ shifted_step s s0 i x pos lt same inv read =
       drop-set-lt (i + 1) s (i - 1) x (omega arith) ∙ sym (drop-drop 1 i s) ∙ ap (drop 1) inv.1 ∙ drop-drop 1 i s0,
     )
 
-pub shifted_end : {E : Type 0} (s s0 : List E) (len i : ℕ) → 0 < len → i ≡ len → Shifted s s0 i → take (len - 1) s ≡ drop 1 (take len s0)
-shifted_end s s0 len i pos e inv =
-    let one : 1 + (len - 1) ≡ len = omega arith in
-    ap (λ n. take (n - 1) s) (sym e) ∙ inv.0 ∙ ap (λ n. take (n - 1) (drop 1 s0)) e ∙ sym (drop-take 1 (len - 1) s0) ∙ ap (λ n. drop 1 (take n s0)) one
+pub shifted_end : {E : Type 0} (s s0 : List E) (i : ℕ) → i ≡ length s0 → Shifted s s0 i → take (length s0 - 1) s ≡ drop 1 s0
+shifted_end s s0 i e inv =
+    ap (λ n. take (n - 1) s) (sym e) ∙ inv.0 ∙ ap (λ n. take (n - 1) (drop 1 s0)) e ∙ take_all (length s0 - 1) (drop 1 s0) (omega (arith, length-drop 1 s0))

@@ -1,12 +1,14 @@
 -- What an insert and a take leave of a sound list, and what follows from a refusal or none. Assumes nothing.
-use Rattle.std.proofs.Common.{◌≡◌, ℕ, zero, suc, ◌+◌, ◌<◌, ◌≤◌, Bool, true, false, cond, ◌||◌, eqb, leb, List, [], ◌∷◌, length, get_or, take, drop, Some, None, sym, refl, ap, ◌∙◌, ⊎_elim, arith, length-take}
+use Rattle.std.proofs.Common.{◌≡◌, ℕ, zero, suc, ◌+◌, ◌<◌, Bool, true, false, cond, ◌||◌, eqb, leb, List, [], ◌∷◌, length, get_or, take, drop, Some, None, Ok, Option, sym, refl, ap, ◌∙◌, ⊎_elim, arith}
 use Rattle.std.specs.List.{AllByRecursion}
+use Rattle.std.specs.Result.{OnOk}
 use Rattle.std.proofs.ByRecursion.{All-weaker}
 use Rattle.std.proofs.lemmas.Bool.{cases_Bool, cond-true, cond-false, cond_both, or_parts, or_from, ne_eqb, eqb-false, leb-false}
+use Rattle.queue.specs.declared.refusal.Refusal.{Refusal}
 use Rattle.queue.specs.declared.refusal.Refusal.TheVariants.{Present, Full}
 use Rattle.queue.specs.Order.{Order, Total, insert_sorted, sorted, Rising}
 use Rattle.queue.specs.Meaning.{limit, first_of, rest_of, queued, Distinct, Sound}
-use Rattle.queue.specs.Answer.{unfit, chosen, refusal_of}
+use Rattle.queue.specs.Answer.{unfit, chosen, refusal_of, answer_of, answered}
 use Rattle.queue.proofs.Queued.{queued_insert, queued_sorted}
 
 pub first_is : {E : Type 0} (s : List E) (len : ℕ) (d : E) → 0 < len → 0 < length s → Some (get_or s 0 d) ≡ first_of (take len s)
@@ -93,7 +95,13 @@ module _ {E : Type 0} (o : Order E) (capacity : ℕ) where
         ap (λ b. chosen (leb limit (o.task_of e) || b) (leb capacity (length (sorted o.before xs)))) (queued_sorted o.before o.task_of (o.task_of e) xs)
         ∙ ap (λ n. chosen (unfit o e xs) (leb capacity n)) (length-sorted o.before xs)
 
+pub not_refused : (r : Option Refusal) (u : Unit {0}) → answer_of r ≡ Ok u → r ≡ None
+not_refused None u h = refl
+not_refused (Some r) u h = cc
+
 -- what is not refused finds room after the entries in use
-pub fit_after : {E : Type 0} (o : Order E) (capacity : ℕ) (e : E) (s : List E) (len : ℕ) → len ≤ length s → refusal_of o capacity e (sorted o.before (take len s)) ≡ None → len < capacity
-fit_after o capacity e s len le none =
-    omega (arith, (fit_from o capacity e (sorted o.before (take len s)) none).1, length-sorted o.before (take len s), length-take len s)
+pub room_after : {E : Type 0} (o : Order E) (capacity : ℕ) (e : E) (xs : List E) (len : ℕ) → length xs ≡ len → OnOk (answered o capacity e xs) (len < capacity)
+room_after o capacity e xs len size = by_refusal (refusal_of o capacity e xs) refl where
+  by_refusal : (r : Option Refusal) → refusal_of o capacity e xs ≡ r → OnOk (answer_of r) (len < capacity)
+  by_refusal None h = omega (arith, (fit_from o capacity e xs h).1)
+  by_refusal (Some r) h = tt

@@ -6,6 +6,8 @@ use Rattle.queue.specs.Meaning.{first_of, rest_of}
 use Rattle.queue.specs.Answer.{answered, inserted}
 use Rattle.queue.specs.declared.runs.Call.{Call}
 use Rattle.queue.specs.declared.runs.Call.TheVariants.{Insert, Take}
+use Rattle.queue.specs.declared.runs.Mismatch.{Mismatch}
+use Rattle.queue.specs.declared.runs.Mismatch.TheVariants.{Entries, Capacities, Places}
 use Rattle.queue.specs.declared.runs.Answer.{Answer}
 use Rattle.queue.specs.declared.runs.Answer.TheVariants.{Inserted, Taken}
 
@@ -86,3 +88,7 @@ pub record Alike {E : Type 0} (o : Order E) (capacity : ℕ) (calls : List (Call
 abbrev pub comparable : {E : Type 0} → List E → List E → ℕ → ℕ → ℕ → ℕ → ℕ → Bool
 comparable xs ys c d calls from_p from_q =
     (length xs == 0 && length ys == 0) && (c == d && (from_p == calls && from_q == calls))
+
+-- why two queues that cannot be compared cannot: a queue holds an entry, else the capacities differ, else there is not one place for each answer
+abbrev pub mismatch_of : {E : Type 0} → List E → List E → ℕ → ℕ → Mismatch
+mismatch_of xs ys c d = cond (length xs == 0 && length ys == 0) (cond (c == d) Places Capacities) Entries

@@ -7,6 +7,8 @@ pub trait QueueEntry: Copy {
     ghost order: { Order Self };
 
     /// Whether this entry comes before the other; no entry comes before itself.
+    ///
+    /// It is asked for, and not taken from `Ord`: a bound would ask more of an entry than its order.
     fn is_before(self, other: Self) -> bool
         ensures { result ≡ order.before self other };
 

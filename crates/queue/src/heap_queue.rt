@@ -1,8 +1,9 @@
 //! A queue kept as a binary heap in lent memory.
-ghost use Rattle.std.specs.Prelude.{◌≡◌, ◌+◌, ◌*◌, ◌<◌, ◌≤◌, min, [], length, take};
+ghost use Rattle.std.specs.Prelude.{◌≡◌, ◌+◌, ◌-◌, ◌*◌, ◌<◌, ◌≤◌, min, [], length};
+ghost use Rattle.std.specs.Result.{OnOk};
 ghost use Rattle.queue.specs.Order.{sorted};
 ghost use Rattle.queue.specs.Meaning.{limit};
-ghost use Rattle.queue.specs.Answer.{refusal_of};
+ghost use Rattle.queue.specs.Answer.{answered};
 ghost use Rattle.queue.specs.Heaps.{Child, Heap, Above, Beneath, Least, heap_list, heap_room, HeapOrdered, heap_sound};
 
 use super::{Queue, QueueEntry, Refusal, scan};
@@ -10,6 +11,7 @@ use super::{Queue, QueueEntry, Refusal, scan};
 /// The first `len` of the lent entries, as a heap: no entry comes before the one above it.
 ///
 /// `first` reads one entry; `insert` and `take` compare one entry, or two, on each of the log of `len` levels that they pass.
+/// The ordered list has the same fields: a struct for both would only put one more call before each method of one line.
 #[derive(Drop)]
 pub struct HeapQueue<'a, E> {
     entries: &'a mut [E],
@@ -24,59 +26,53 @@ fn parent_of(i: usize) -> usize
     (i - 1) / 2
 }
 
-/// Moves the entry at `start`, the last of the heap, up to its place.
-fn sift_up<E: QueueEntry>(entries: &mut [E], start: usize)
-    requires within { start < length entries.old }
-    requires shape { Above E.order.before entries.old (start + 1) start }
-    ensures shape { Heap E.order.before entries.new (start + 1) }
-    ensures same { sorted E.order.before (take (start + 1) entries.new) ≡ sorted E.order.before (take (start + 1) entries.old) }
+/// Moves the last entry up to its place.
+fn sift_up<E: QueueEntry>(entries: &mut [E])
+    requires within { 0 < length entries.old }
+    requires shape { Above E.order.before entries.old (length entries.old) (length entries.old - 1) }
+    ensures shape { Heap E.order.before entries.new (length entries.old) }
+    ensures same { sorted E.order.before entries.new ≡ sorted E.order.before entries.old }
 {
-    let mut i = start;
+    // The places of a path up, each from the one before it: no iterator over the entries gives them.
+    let mut i = entries.len() - 1;
     while i > 0 {
         let parent = parent_of(i);
-        let low = entries[i];
-        let high = entries[parent];
-        if !low.is_before(high) {
+        if !entries[i].is_before(entries[parent]) {
             return;
         }
-        entries[i] = high;
-        entries[parent] = low;
+        entries.swap(i, parent);
         i = parent;
     }
 }
 
 /// The child of `i` that comes first.
-fn least_child<E: QueueEntry>(entries: &[E], len: usize, i: usize) -> usize
-    requires { (2 * i + 1 < len) × (len ≤ length entries.now) × (len ≤ limit) }
-    ensures { Least E.order.before entries.now len i result }
+fn least_child<E: QueueEntry>(entries: &[E], i: usize) -> usize
+    requires { (2 * i + 1 < length entries.now) × (length entries.now ≤ limit) }
+    ensures { Least E.order.before entries.now (length entries.now) i result }
 {
     let left = 2 * i + 1;
-    if left + 1 == len {
-        return left;
-    }
-    if entries[left + 1].is_before(entries[left]) {
-        return left + 1;
+    let right = left + 1;
+    if right < entries.len() && entries[right].is_before(entries[left]) {
+        return right;
     }
     left
 }
 
 /// Moves the entry at the root down to its place.
-fn sift_down<E: QueueEntry>(entries: &mut [E], len: usize)
-    requires within { (len ≤ length entries.old) × (len ≤ limit) }
-    requires shape { Beneath E.order.before entries.old len 0 }
-    ensures shape { Heap E.order.before entries.new len }
-    ensures same { sorted E.order.before (take len entries.new) ≡ sorted E.order.before (take len entries.old) }
+fn sift_down<E: QueueEntry>(entries: &mut [E])
+    requires within { length entries.old ≤ limit }
+    requires shape { Beneath E.order.before entries.old (length entries.old) 0 }
+    ensures shape { Heap E.order.before entries.new (length entries.old) }
+    ensures same { sorted E.order.before entries.new ≡ sorted E.order.before entries.old }
 {
+    // A path down, which each comparison decides anew.
     let mut i = 0;
-    while 2 * i + 1 < len {
-        let child = least_child(entries, len, i);
-        let high = entries[i];
-        let low = entries[child];
-        if !low.is_before(high) {
+    while 2 * i + 1 < entries.len() {
+        let child = least_child(entries, i);
+        if !entries[child].is_before(entries[i]) {
             return;
         }
-        entries[i] = low;
-        entries[child] = high;
+        entries.swap(i, child);
         i = child;
     }
 }
@@ -91,11 +87,13 @@ impl<'a, E: QueueEntry> HeapQueue<'a, E> {
         HeapQueue { entries, len: 0 }
     }
 
-    fn refusal(&self, e: E) -> Option<Refusal>
-        requires { self.now.len ≤ length self.now.entries.now }
-        ensures { result ≡ refusal_of E.order (heap_room self.now) e (heap_list E.order self.now) }
+    /// Whether the entry can join the others.
+    fn check(&self, e: E) -> Result<(), Refusal>
+        requires { HeapOrdered E.order E.order self.now }
+        ensures value { result ≡ answered E.order (heap_room self.now) e (heap_list E.order self.now) }
+        ensures room { OnOk result (self.now.len < heap_room self.now) }
     {
-        scan::refusal(self.entries, self.len, e)
+        scan::check(self.capacity(), e, &self.entries[..self.len])
     }
 }
 
@@ -111,33 +109,22 @@ impl<'a, E: QueueEntry> Queue for HeapQueue<'a, E> {
     ghost sound = { heap_sound E.order };
 
     fn insert(&mut self, e: E) -> Result<(), Refusal> {
-        if let Some(refusal) = self.refusal(e) {
-            return Err(refusal);
-        }
-        let len = self.len;
-        self.entries[len] = e;
-        sift_up(self.entries, len);
-        self.len = len + 1;
+        self.check(e)?;
+        self.entries[self.len] = e;
+        self.len += 1;
+        sift_up(&mut self.entries[..self.len]);
         Ok(())
     }
 
     fn first(&self) -> Option<E> {
-        if self.len == 0 {
-            None
-        } else {
-            Some(self.entries[0])
-        }
+        self.entries[..self.len].first().copied()
     }
 
     fn take(&mut self) -> Option<E> {
-        if self.len == 0 {
-            return None;
-        }
-        let last = self.len - 1;
-        let first = self.entries[0];
-        self.entries[0] = self.entries[last];
-        sift_down(self.entries, last);
-        self.len = last;
+        let first = self.first()?;
+        self.len -= 1;
+        self.entries[0] = self.entries[self.len];
+        sift_down(&mut self.entries[..self.len]);
         Some(first)
     }
 

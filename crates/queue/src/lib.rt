@@ -25,13 +25,13 @@ pub use heap_queue::HeapQueue;
 pub use list_queue::ListQueue;
 pub use refusal::Refusal;
 pub use released::Released;
-pub use runs::{Answer, Call, both};
+pub use runs::{Answer, Call, Mismatch, both};
 pub use waiting::Waiting;
 
 /// A queue of entries of at most 32 tasks, the first entry first.
 ///
 /// `list` is what the queue holds, `capacity` how many entries it can hold, and `ordered` what has to be true of its memory.
-/// A new queue is ordered, and every call asks for it and keeps it.
+/// A new queue is ordered, and every call asks for it and keeps it: it is no invariant of the type, so that code over any queue can name it.
 /// `sound` says what follows of the list and the capacity of any ordered queue.
 pub trait Queue {
     type Entry: QueueEntry;

@@ -1,7 +1,7 @@
-//! The tests that both queues make of their memory before an insert.
-ghost use Rattle.std.specs.Prelude.{◌≡◌, ◌≤◌, min, length, take};
+//! The tests that both queues make of the entries in use before an insert.
+ghost use Rattle.std.specs.Prelude.{◌≡◌, min};
 ghost use Rattle.queue.specs.Meaning.{limit, queued};
-ghost use Rattle.queue.specs.Answer.{chosen, refusal_of};
+ghost use Rattle.queue.specs.Answer.{answered};
 
 use super::{QueueEntry, Refusal};
 
@@ -12,43 +12,34 @@ const LIMIT: usize = 32;
 pub(super) fn room(lent: usize) -> usize
     ensures { result ≡ min lent limit }
 {
-    if lent < LIMIT { lent } else { LIMIT }
+    lent.min(LIMIT)
 }
 
-/// Whether one of the first `len` entries is of the task.
+/// Whether one of the entries in use is of the task.
 ///
 /// A scan of at most 32 entries: a set of tasks beside them would have to be kept by every call, and is not needed at this size.
-fn holds<E: QueueEntry>(entries: &[E], len: usize, task: usize) -> bool
-    requires { len ≤ length entries.now }
-    ensures { result ≡ queued E.order.task_of task (take len entries.now) }
+fn holds<E: QueueEntry>(used: &[E], task: usize) -> bool
+    ensures { result ≡ queued E.order.task_of task used.now }
 {
-    for i in 0..len {
-        if entries[i].task() == task {
+    // By a loop: `any` takes one instruction more for each entry, about 6 % of a whole insert and take.
+    for e in used {
+        if e.task() == task {
             return true;
         }
     }
     false
 }
 
-/// Why an entry is refused, if it is: that its task is not fit counts before that there is no room.
-fn choose(unfit: bool, full: bool) -> Option<Refusal>
-    ensures { result ≡ chosen unfit full }
-{
-    if unfit {
-        return Some(Refusal::Present);
-    }
-    if full {
-        return Some(Refusal::Full);
-    }
-    None
-}
-
-/// Why the entry cannot join the first `len` entries, if it cannot.
-pub(super) fn refusal<E: QueueEntry>(entries: &[E], len: usize, e: E) -> Option<Refusal>
-    requires { len ≤ length entries.now }
-    ensures { result ≡ refusal_of E.order (min (length entries.now) limit) e (take len entries.now) }
+/// Whether the entry can join those in use: that its task is not fit counts before that there is no room.
+pub(super) fn check<E: QueueEntry>(room: usize, e: E, used: &[E]) -> Result<(), Refusal>
+    ensures { result ≡ answered E.order room e used.now }
 {
     let task = e.task();
-    let unfit = task >= LIMIT || holds(entries, len, task);
-    choose(unfit, len >= room(entries.len()))
+    if task >= LIMIT || holds(used, task) {
+        return Err(Refusal::Present);
+    }
+    if used.len() >= room {
+        return Err(Refusal::Full);
+    }
+    Ok(())
 }

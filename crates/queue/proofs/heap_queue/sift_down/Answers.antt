@@ -1,31 +1,25 @@
-use Rattle.std.proofs.Common.{◌≡◌, true, sym, ◌∙◌, arith}
-use Rattle.queue.proofs.Heaping.{heap_end, step_beneath, step_across_down}
+use Rattle.std.proofs.Common.{◌≡◌, ℕ, true, length, sym, ◌∙◌, subst, arith}
+use Rattle.queue.specs.Heaps.{Least}
+use Rattle.queue.proofs.Heaping.{step_beneath, step_across_down}
 use Rattle.queue.proofs.Multiset.{sorted_swapped}
 use Rattle.queue.proofs.heap_queue.sift_down.Goals as goal
-
-pub returns-then-not-is_before : goal.returns-then-not-is_before
-returns-then-not-is_before g c =
-    let b = g.E.QueueEntry.order.before in
-    let o = g.met.E.QueueEntry.total in
-    record {
-      shape = heap_end b o c.loop-i.entries c.args.len c.loop-i.i c.least_child-child.result c.index-entries-i.result c.index-entries-child.result
-          (omega arith) (omega arith) c.index-entries-i.is c.index-entries-child.is c.least_child-child.ensures c.loop-i.invariant.1 (sym c.if-not-is_before.ensures);
-      same = c.loop-i.invariant.3;
-    }
 
 pub loop-i-preserved : goal.loop-i-preserved
 loop-i-preserved g c =
     let b = g.E.QueueEntry.order.before in
     let o = g.met.E.QueueEntry.total in
     let s = c.loop-i.entries in
-    let n = c.args.len in
+    let s' = c.swap.new.self in
+    let n = length c.args.entries.now in
     let i = c.loop-i.i in
     let m = c.least_child-child.result in
     let x = c.index-entries-i.result in
     let y = c.index-entries-child.result in
+    let size : length s ≡ n = omega arith in
+    let least : Least b s n i m = subst (λ (k : ℕ). Least b s k i m) size c.least_child-child.ensures in
     let less : b y x ≡ true = sym c.if-not-is_before.ensures in (
       omega arith,
-      step_beneath b o s n i m x y (omega arith) (omega arith) c.index-entries-i.is c.index-entries-child.is c.least_child-child.ensures c.loop-i.invariant.1 less c.loop-i.invariant.2,
-      step_across_down b o s n i m x y (omega arith) (omega arith) c.index-entries-i.is c.index-entries-child.is c.least_child-child.ensures c.loop-i.invariant.1 less c.loop-i.invariant.2,
-      sorted_swapped b o s n i m x y (omega arith) (omega arith) (omega arith) (λ e. omega arith) c.index-entries-i.is c.index-entries-child.is ∙ c.loop-i.invariant.3,
+      step_beneath b o s n i m x y (omega arith) (omega arith) c.index-entries-i.is c.index-entries-child.is least c.loop-i.invariant.1 s' c.swap.ensures.by_index less c.loop-i.invariant.2,
+      step_across_down b o s n i m x y (omega arith) (omega arith) c.index-entries-i.is c.index-entries-child.is least c.loop-i.invariant.1 s' c.swap.ensures.by_index less c.loop-i.invariant.2,
+      sorted_swapped b o s s' i m (omega arith) (omega arith) (λ e. omega arith) c.swap.ensures.by_index ∙ c.loop-i.invariant.3,
     )

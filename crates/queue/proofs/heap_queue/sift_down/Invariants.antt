@@ -1,4 +1,4 @@
-use Rattle.std.proofs.Common.{◌≡◌, ◌-◌, ◌≤◌, take}
+use Rattle.std.proofs.Common.{◌≡◌, ◌-◌, ◌≤◌, length}
 use Rattle.queue.specs.Order.{sorted}
 use Rattle.queue.specs.Heaps.{Beneath, Across}
 use Rattle.queue.proofs.heap_queue.sift_down.Given as goal
@@ -6,8 +6,8 @@ use Rattle.queue.proofs.heap_queue.sift_down.Given as goal
 abbrev pub invariant-loop-i : goal.invariant-loop-i
 invariant-loop-i g l =
     let b = g.E.QueueEntry.order.before in
-    (l.i ≤ l.len) × Beneath b l.entries l.len l.i × Across b l.entries l.len l.i
-    × (sorted b (take l.len l.entries) ≡ sorted b (take l.len l.initial.entries))
+    let n = length l.initial.entries in
+    (l.i ≤ n) × Beneath b l.entries n l.i × Across b l.entries n l.i × (sorted b l.entries ≡ sorted b l.initial.entries)
 
 abbrev pub decreases-loop-i : goal.decreases-loop-i
-decreases-loop-i g l = l.len - l.i
+decreases-loop-i g l = length l.initial.entries - l.i

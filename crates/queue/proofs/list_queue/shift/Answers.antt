@@ -7,4 +7,4 @@ loop-i-preserved g c =
     shifted_step c.loop-i.entries c.args.entries.now c.loop-i.i c.index-entries-i.result (omega arith) (omega arith) (omega arith) c.loop-i.invariant c.index-entries-i.is
 
 pub returns : goal.returns
-returns g c = shifted_end c.loop-i.entries c.args.entries.now c.args.len c.loop-i.i (omega arith) (omega arith) c.loop-i.invariant
+returns g c = shifted_end c.loop-i.entries c.args.entries.now c.loop-i.i (omega arith) c.loop-i.invariant

@@ -1,6 +1,6 @@
-use Rattle.std.proofs.Common.{◌≡◌, false, take}
-use Rattle.queue.specs.Meaning.{queued}
+use Rattle.std.proofs.Common.{◌≡◌, false, eqb, take}
+use Rattle.std.specs.List.{list_any}
 use Rattle.queue.proofs.scan.holds.Given as goal
 
-abbrev pub invariant-loop-i : goal.invariant-loop-i
-invariant-loop-i g l = queued g.E.QueueEntry.order.task_of l.task (take l.i l.entries) ≡ false
+abbrev pub invariant-loop-e : goal.invariant-loop-e
+invariant-loop-e g l = list_any (λ x. eqb (g.E.QueueEntry.order.task_of x) l.task) (take l.e-index l.used) ≡ false

@@ -1,52 +1,50 @@
-use Rattle.std.proofs.Common.{◌≡◌, ℕ, ◌+◌, min, length, take, None, sym, ap, ◌∙◌, subst, arith, length-set}
+use Rattle.std.proofs.Common.{◌≡◌, ℕ, ◌+◌, ◌++◌, ◌<◌, min, length, take, drop, set, None, sym, ap, ◌∙◌, subst, arith}
+use Rattle.std.proofs.lemmas.Grind.{common_steps}
+use Rattle.std.specs.Result.{OnOk}
 use Rattle.queue.specs.Order.{insert_sorted, sorted}
 use Rattle.queue.specs.Meaning.{limit, Sound}
-use Rattle.queue.specs.Heaps.{heap_room}
-use Rattle.queue.specs.Answer.{refusal_of, answer_of, unless}
-use Rattle.queue.proofs.Sounding.{fit_after, sound_insert}
-use Rattle.queue.proofs.Heaping.{heap_insert, heap_above}
+use Rattle.queue.specs.Heaps.{Heap}
+use Rattle.queue.specs.Answer.{refusal_of, unless}
+use Rattle.queue.proofs.Sounding.{not_refused, sound_insert}
+use Rattle.queue.proofs.Heaping.{heap_insert, used_heap}
 use Rattle.queue.proofs.heap_queue.HeapQueueQueue.insert.Goals as goal
 
-pub bounds-self-len : goal.bounds-self-len
-bounds-self-len g c =
-    let q = c.args.self.now in
-    let fit = fit_after g.E.QueueEntry.order (heap_room q) c.args.e q.entries.now q.len (omega arith) (sym c.refusal.ensures ∙ c.in_default.is) in
-    omega arith
-
-pub sift_up-requires : goal.sift_up-requires
-sift_up-requires g c =
+pub returns-clause-ordered : goal.returns-clause-ordered
+returns-clause-ordered g c =
     let o = g.E.QueueEntry.order in
-    let q = c.args.self.now in
-    let s = q.entries.now in
-    let fit = fit_after o (heap_room q) c.args.e s q.len (omega arith) (sym c.refusal.ensures ∙ c.in_default.is) in
-    record {
-      within = simp length-set (omega arith);
-      shape = heap_above o.before g.met.E.QueueEntry.total s q.len c.args.e c.requires.1;
-    }
-
-pub returns : goal.returns
-returns g c =
-    let o = g.E.QueueEntry.order in
+    let b = o.before in
     let e = c.args.e in
     let s = c.args.self.now.entries.now in
     let len = c.args.self.now.len in
-    let raw = take len s in
-    let xs = sorted o.before raw in
+    let xs = sorted b (take len s) in
     let room = min (length s) limit in
-    let last = c.sift_up.new.entries in
-    let none : refusal_of o room e xs ≡ None = sym c.refusal.ensures ∙ c.in_default.is in
-    let same : min (length last) limit ≡ room = ap (λ n. min n limit) (c.sift_up.auto.entries ∙ length-set s len e) in
-    let fit = fit_after o room e s len (omega arith) none in
-    let new : sorted o.before (take (len + 1) last) ≡ insert_sorted o.before e xs =
-    c.sift_up.ensures.same ∙ heap_insert o.before g.met.E.QueueEntry.total s len e (omega arith) in
-    record {
-      ordered = (
-        omega arith,
-        c.sift_up.ensures.shape,
-        subst (λ (n : ℕ). Sound o n (sorted o.before (take (len + 1) last))) (sym same)
-            (subst (Sound o room) (sym new) (sound_insert o room e xs g.met.E.QueueEntry.total c.requires.2 none)),
-      );
-      capacity = same;
-      value = sym (ap answer_of none);
-      after = new ∙ sym (ap (λ r. unless r (insert_sorted o.before e xs) xs) none);
-    }
+    let used = c.sift_up.new.entries in
+    let behind = drop (len + 1) (set s len e) in
+    let none : refusal_of o room e xs ≡ None = not_refused (refusal_of o room e xs) c.in_ok-check.field-0 (sym c.check.ensures.value ∙ c.in_ok-check.was) in
+    let fit : len < room = subst (λ r. OnOk r (len < room)) c.in_ok-check.was c.check.ensures.room in
+    let size : length used ≡ len + 1 = grind (arith, common_steps) in
+    let same : min (length (used ++ behind)) limit ≡ room = grind (arith, common_steps) in
+    let front : take (len + 1) (used ++ behind) ≡ used = grind (arith, common_steps) in
+    let new : sorted b (take (len + 1) (used ++ behind)) ≡ insert_sorted b e xs =
+    ap (sorted b) front ∙ c.sift_up.ensures.same ∙ heap_insert b g.met.E.QueueEntry.total s len e (omega arith) in (
+      omega arith,
+      used_heap b used behind (len + 1) (sym size) (subst (λ (k : ℕ). Heap b used k) (sym c.sift_up.auto.entries) c.sift_up.ensures.shape),
+      subst (λ (k : ℕ). Sound o k (sorted b (take (len + 1) (used ++ behind)))) (sym same)
+          (subst (Sound o room) (sym new) (sound_insert o room e xs g.met.E.QueueEntry.total c.requires.2 none)),
+    )
+
+pub returns-clause-after : goal.returns-clause-after
+returns-clause-after g c =
+    let o = g.E.QueueEntry.order in
+    let b = o.before in
+    let e = c.args.e in
+    let s = c.args.self.now.entries.now in
+    let len = c.args.self.now.len in
+    let xs = sorted b (take len s) in
+    let room = min (length s) limit in
+    let used = c.sift_up.new.entries in
+    let none : refusal_of o room e xs ≡ None = not_refused (refusal_of o room e xs) c.in_ok-check.field-0 (sym c.check.ensures.value ∙ c.in_ok-check.was) in
+    let fit : len < room = subst (λ r. OnOk r (len < room)) c.in_ok-check.was c.check.ensures.room in
+    let front : take (len + 1) (used ++ drop (len + 1) (set s len e)) ≡ used = grind (arith, common_steps) in
+    ap (sorted b) front ∙ c.sift_up.ensures.same ∙ heap_insert b g.met.E.QueueEntry.total s len e (omega arith)
+    ∙ sym (ap (λ r. unless r (insert_sorted b e xs) xs) none)
