@@ -6,9 +6,9 @@ ghost use Rattle.queue.specs.Answer.{number_of};
 #[derive(Clone, Copy, PartialEq, Eq, Debug)]
 pub enum Refusal {
     /// The task is in the queue already, or its number is above 31.
-    Present,
+    Present = 23,
     /// The queue holds as many entries as it can.
-    Full,
+    Full = 24,
 }
 
 impl Refusal {
@@ -16,9 +16,6 @@ impl Refusal {
     pub fn number(self) -> u8
         ensures { result ≡ number_of self }
     {
-        match self {
-            Refusal::Present => 23,
-            Refusal::Full => 24,
-        }
+        self as u8
     }
 }
