@@ -14,6 +14,7 @@ impl Sound<'_> {
     pub(crate) fn idle_instant(&self) -> Option<Instant>
         ensures { MatchOption result ((u : ℕ) → Idle self.now.tasks.now u → horizon < u) (λ t. Idle self.now.tasks.now t.ticks) }
     {
+        // No range: each turn goes on at the work that the last one found.
         let mut ticks = 1;
         while ticks <= HORIZON {
             let t = Instant { ticks };

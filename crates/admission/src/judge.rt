@@ -38,6 +38,7 @@ impl Sound<'_> {
     fn fits_until(&self, last: Instant) -> Result<(), Refusal>
         ensures { MatchResult result (λ _. FitsUntil self.now.tasks.now self.now.sections.now last.ticks) (RefusedBy self.now.tasks.now self.now.sections.now last.ticks) }
     {
+        // No range: from one deadline to the next.
         let mut ticks = self.next_deadline(Instant { ticks: 0 });
         while ticks <= last.ticks {
             let t = Instant { ticks };

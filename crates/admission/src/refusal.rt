@@ -21,6 +21,7 @@ impl Refusal {
     pub fn number(&self) -> u32
         ensures { result ≡ refusal_number self.now }
     {
+        // By cases: a refusal that carries numbers has no discriminant.
         match *self {
             Refusal::Records => 10,
             Refusal::Demand(..) => 11,

@@ -54,6 +54,7 @@ impl Refusal {
     pub fn number(&self) -> u32
         ensures { result ≡ refusal_number self.now }
     {
+        // By cases: a refusal that carries a value has no discriminant.
         match self {
             Refusal::Past => 14,
             Refusal::Far => 15,

@@ -21,6 +21,7 @@ impl Refusal {
     pub fn number(&self) -> u32
         ensures { result ≡ refusal_number self.now }
     {
+        // By cases: the machine's refusal brings its own number.
         match self {
             Refusal::Shut => 13,
             Refusal::Machine(refusal) => refusal.number(),
@@ -49,7 +50,7 @@ impl fmt::Display for Refusal {
     }
 }
 
-/// The number that stands for no task where an answer names the running one.
+/// The number that stands for no task where an answer names the running one: answers are numbers alone, as the firmware keeps them.
 pub const NOBODY: u32 = 32;
 
 /// What a core answers to a call.

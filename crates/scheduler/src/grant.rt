@@ -37,6 +37,7 @@ impl LeaveRefusal {
     pub fn number(&self) -> u32
         ensures { result ≡ leave_number self.now }
     {
+        // By cases: a refusal that carries a grant has no discriminant.
         match self {
             LeaveRefusal::Shut(_) => 13,
             LeaveRefusal::NotInnermost(_) => 20,

@@ -138,6 +138,7 @@ impl State {
         requires { depth_of self + 1 < 2 ^ 64 }
         ensures { result ≡ stepped self b }
     {
+        // By cases, one for each state: the states are the grammar, which no caller adds to.
         match (self, b as char) {
             (State::Name(letters), _) => in_name(letters, b),
             (State::Colon, ' ') => Move::Go(State::Key(Field::Deadline)),

@@ -12,6 +12,7 @@ fn has(set: u32, resource: u32) -> bool
     requires { resource < resources }
     ensures { result ≡ member set resource }
 {
+    // The bound is asked for and no type of its own: three functions pass the number on, and it comes from a range.
     (set >> resource) % 2 == 1
 }
 

@@ -55,6 +55,7 @@ impl Refusal {
     pub fn number(&self) -> u32
         ensures { result ≡ refusal_number self.now }
     {
+        // By cases: a refusal that carries a place has no discriminant.
         match self {
             Refusal::TooLong => 1,
             Refusal::Empty => 2,
