@@ -84,7 +84,7 @@ impl fmt::Display for Refusal {
 
 /// What a call answers, where `R` says why a call is refused.
 #[derive(Clone, Copy, Debug, PartialEq)]
-pub enum Answer<R> {
+pub enum Answer<R = Refusal> {
     /// An advance: how many jobs expired, how many were released, and the running task, or 32 for none.
     Advanced((u32, u32, u32)),
     /// An entry: the grant.

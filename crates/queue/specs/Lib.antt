@@ -5,4 +5,4 @@ pub mod Entries
 pub mod Lists
 pub mod Heaps
 pub mod Runs
-pub mod Ordered
+pub mod ReleasedLemmas

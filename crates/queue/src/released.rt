@@ -1,8 +1,8 @@
 //! The entry of a task that is released.
-ghost use Rattle.queue.specs.Entries.{released_before, released_order};
-ghost use Rattle.queue.specs.Ordered.{total_by_cmp};
-ghost use Rattle.std.proofs.Common.{rules};
-ghost use Rattle.std.specs.Cmp.Rules.{comparing};
+ghost use Rattle.queue.specs.Entries.{released_order};
+ghost use Rattle.std.proofs.Common.{arith};
+ghost use Rattle.std.proofs.lemmas.Bool.Decides.{nat_tests};
+ghost use Rattle.queue.specs.ReleasedLemmas.{by_trans, by_total, last_trans, last_total, same};
 
 use super::QueueEntry;
 
@@ -26,8 +26,14 @@ impl Released {
 impl QueueEntry for Released {
     ghost order = { released_order };
 
-    // Three fields are too many for the search, and the laws of `cmp` give what it lacks.
-    ghost total = { total_by_cmp released_before ⟦<Released as Ord>⟧.cmp (Prim.search (comparing, rules)) (Prim.search rules) (Prim.search rules) };
+    ghost total = { record {
+      irreflexive = λ x. Prim.grind (arith, nat_tests);
+      transitive = λ x y z. by_trans x.deadline y.deadline z.deadline _ _ _ (by_trans x.relative y.relative z.relative _ _ _ (last_trans x.task y.task z.task));
+      total = λ x y p q.
+          let d = by_total x.deadline y.deadline _ _ p q in
+          let r = by_total x.relative y.relative _ _ d.1 d.2 in
+          same x y d.0 r.0 (last_total x.task y.task r.1 r.2);
+    } };
 
     fn is_before(self, other: Released) -> bool {
         self < other

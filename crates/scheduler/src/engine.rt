@@ -35,3 +35,14 @@ impl<W: Queue<Entry = Waiting>, R: Queue<Entry = Released>> Model for Engine<W, 
 
     ghost invariant = { λ e. Fitted W.Queue R.Queue e.records e.inner e.waiting e.released };
 }
+
+impl<W: Queue<Entry = Waiting>, R: Queue<Entry = Released>> Engine<W, R> {
+    ghost use Rattle.scheduler.specs.Fitted.{Fitted};
+
+    /// What the type holds, said of the parts that contracts see.
+    pub(crate) fn holds(&self)
+        ensures { Fitted W.Queue R.Queue self.now.records self.now.inner self.now.waiting self.now.released }
+    {
+        let _ = &self.records;
+    }
+}

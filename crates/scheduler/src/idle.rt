@@ -24,3 +24,16 @@ impl<W: Queue<Entry = Waiting>, R: Queue<Entry = Released>> Model for Idle<W, R>
 
     ghost invariant = { λ i. W.ordered waiting_order i.waiting × R.ordered released_order i.released };
 }
+
+impl<W: Queue<Entry = Waiting>, R: Queue<Entry = Released>> Idle<W, R> {
+    ghost use Rattle.queue.specs.Entries.{waiting_order, released_order};
+    ghost use Rattle.scheduler.specs.Moves.{fresh};
+
+    /// What the type holds, said of the parts that contracts see.
+    pub(crate) fn holds(&self)
+        ensures inner { self.now.inner ≡ fresh }
+        ensures ordered { W.ordered waiting_order self.now.waiting × R.ordered released_order self.now.released }
+    {
+        let _ = &self.records;
+    }
+}

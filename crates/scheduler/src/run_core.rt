@@ -1,7 +1,11 @@
 //! The core: an engine that runs, or queues that cannot serve the table, and the four calls.
-ghost use Rattle.std.specs.Prelude.{◌≡◌, false, IfErr};
+ghost use Rattle.std.specs.Prelude.{◌≡◌, true, false, IfErr};
+ghost use Rattle.admission.specs.Sound.{sound};
+ghost use Rattle.queue.specs.Entries.{waiting_order, released_order};
 ghost use Rattle.machine.specs.declared.call.Call.TheVariants.{Advance, Enter, Leave, Finish};
 ghost use Rattle.scheduler.specs.View.{table_of};
+ghost use Rattle.scheduler.specs.Moves.{fresh};
+ghost use Rattle.scheduler.specs.Fitted.{Fitted};
 ghost use Rattle.scheduler.specs.Parts.{view};
 ghost use Rattle.scheduler.specs.Calls.{answer_of, state_after, of_advance, of_enter, of_leave, of_finish, HandsBack};
 
@@ -41,6 +45,19 @@ impl<W: Queue<Entry = Waiting>, R: Queue<Entry = Released>> Model for Core<W, R>
 }
 
 impl<W: Queue<Entry = Waiting>, R: Queue<Entry = Released>> Core<W, R> {
+    /// What is true of every core at any time, since its type holds it. The function does nothing; its contract says it.
+    pub fn holds(&self)
+        ensures sound { sound (table_of self.now.records).tasks (table_of self.now.records).sections ≡ true }
+        ensures ordered { W.ordered waiting_order self.now.waiting × R.ordered released_order self.now.released }
+        ensures live { self.now.live ≡ true → Fitted W.Queue R.Queue self.now.records self.now.inner self.now.waiting self.now.released }
+        ensures shut { self.now.live ≡ false → self.now.inner ≡ fresh }
+    {
+        match &self.state {
+            State::Live(engine) => engine.holds(),
+            State::Shut(idle) => idle.holds(),
+        }
+    }
+
     /// The clock goes on to t: the running job and then released jobs end whose deadline is t, tasks are released whose release is t, and selection
     /// follows. Answers how many jobs ended so, how many tasks were released, and the running task, or 32 for none.
     pub fn advance(&mut self, t: u64) -> Result<(u32, u32, u32), Refusal>
