@@ -10,33 +10,22 @@ use Rattle.queue.specs.Order.{insert_sorted}
 use Rattle.queue.specs.Entries.{waiting_before}
 use Rattle.admission.proofs.Nesting.{Inside, nesting_within}
 use Rattle.admission.proofs.Nesting.{innermost_of as innermost_section}
-use Rattle.machine.specs.declared.call.Call.{Call}
 use Rattle.machine.specs.declared.call.Call.TheVariants.{Advance, Enter, Finish}
 use Rattle.machine.specs.declared.call.Answer.TheVariants.{Granted, Running}
 use Rattle.machine.specs.declared.call.Refusal.{Refusal}
 use Rattle.machine.specs.declared.call.Refusal.TheVariants.{NothingRuns, NotEnterable, TooManyEntries, StillOpen}
 use Rattle.machine.specs.State.{Table, Open, Job, State, section_at, running}
 use Rattle.machine.specs.Step.{Outcome, refused, step, most_entries, not_advanced, top_expired, lapsed, released_at, clock_at, advanced, advanced_answer, same_place, innermost, enterable, entered, finished, none_open, selected}
-use Rattle.scheduler.specs.Answered.{told}
 use Rattle.scheduler.specs.declared.records.Records.{Records}
 use Rattle.scheduler.specs.declared.stack.Inner.{Inner}
 use Rattle.scheduler.specs.View.{table_of, opens_of, job_of, jobs_of, state_of}
 use Rattle.scheduler.specs.Steady.{job_at, chained, Steady}
 use Rattle.scheduler.specs.Moves.{top_of, no_open, no_section, innermost_of, enterable_at, enter_refusal, finish_refusal, again_of, with_open}
 use Rattle.scheduler.specs.Moves.{entered_by, finished_by}
-use Rattle.scheduler.specs.Calls.{answer_of, state_after}
 use Rattle.scheduler.proofs.Jobs.{jobs_none, jobs_top, jobs_set, opens_none, opens_top, opens_push}
 use Rattle.scheduler.proofs.Facts.{section_at_lem, sections_length}
 use Rattle.scheduler.proofs.Ghosts.{tall, known}
 use Rattle.scheduler.proofs.Events.{high, top_count}
-
--- the answer and the state of a live core
-module _ (live : Bool) (k : Table) (c : Call) (s : State) (on : live ≡ true) (o : Outcome) (is : step k c s ≡ o) where
-  pub live_answer : answer_of live k c s ≡ told o.answer
-  live_answer = cond-true live (told (step k c s).answer) _ on ∙ ap (λ (x : Outcome). told x.answer) is
-
-  pub live_after : state_after live k c s ≡ o.state
-  live_after = cond-true live (step k c s).state _ on ∙ ap (λ (x : Outcome). x.state) is
 
 -- what a call comes to, by whether it is refused
 abbrev pub by_refusal : Option Refusal → State → Outcome → Outcome

@@ -1,5 +1,5 @@
 -- What an advance does before selection, over the core's own fields and the queues' lists, is what the machine does.
-use Rattle.std.proofs.Common.{◌≡◌, ℕ, ◌+◌, ◌-◌, ◌<◌, ◌≤◌, true, false, ◌&&◌, eqb, ltb, List, [], ◌∷◌, length, sym, ap, ◌∙◌, subst, inl, inr, add-zero, arith}
+use Rattle.std.proofs.Common.{◌≡◌, ℕ, ◌+◌, ◌-◌, ◌<◌, ◌≤◌, true, false, ◌&&◌, eqb, ltb, List, ◌∷◌, length, sym, ap, ◌∙◌, subst, inl, inr, add-zero, arith}
 use Rattle.std.proofs.lemmas.Bool.{cond-true, cond-false, and_parts, cases_lt, ltb-true, lt-ltb}
 use Rattle.queue.specs.declared.waiting.Waiting.{Waiting}
 use Rattle.queue.specs.declared.released.Released.{Released}
@@ -90,15 +90,6 @@ module _ (k : Table) (i : Inner) (t : ℕ) (ws : List Waiting) (rs : List Releas
       ∙ sym (cond-true (eqb e.deadline t) (lapsed k t (state (i.counts.taken + 0)) es) (state_of i ws (e ∷ es)) now)
       ∙ ap (λ (l : List Released). lapsed k t (state_of i ws l) l) (sym at)
 
-  pub lapse_later : eqb e.deadline t ≡ false → lapsed k t (state_of i ws rs) rs ≡ state_of i ws rs
-  lapse_later later =
-      ap (λ (l : List Released). lapsed k t (state_of i ws l) l) at
-      ∙ cond-false (eqb e.deadline t) _ (state_of i ws (e ∷ es)) later
-      ∙ ap (λ (l : List Released). state_of i ws l) (sym at)
-
-pub lapse_none : (k : Table) (i : Inner) (t : ℕ) (ws : List Waiting) (rs : List Released) → rs ≡ [] → lapsed k t (state_of i ws rs) rs ≡ state_of i ws rs
-lapse_none k i t ws rs at = ap (λ (l : List Released). lapsed k t (state_of i ws l) l) at ∙ ap (λ (l : List Released). state_of i ws l) (sym at)
-
 -- the first waiting task is released
 module _ (k : Table) (i : Inner) (t : ℕ) (ws : List Waiting) (rs : List Released) (w : Waiting) (rest : List Waiting) (at : ws ≡ w ∷ rest) where
   pub release_step :
@@ -107,12 +98,3 @@ module _ (k : Table) (i : Inner) (t : ℕ) (ws : List Waiting) (rs : List Releas
   release_step now =
       sym (cond-true (eqb w.release t) (released_at k t (state_of (released_by i w.task) rest (insert_sorted released_before (release_of k w) rs)) rest) (state_of i (w ∷ rest) rs) now)
       ∙ ap (λ (l : List Waiting). released_at k t (state_of i l rs) l) (sym at)
-
-  pub release_later : eqb w.release t ≡ false → released_at k t (state_of i ws rs) ws ≡ state_of i ws rs
-  release_later later =
-      ap (λ (l : List Waiting). released_at k t (state_of i l rs) l) at
-      ∙ cond-false (eqb w.release t) _ (state_of i (w ∷ rest) rs) later
-      ∙ ap (λ (l : List Waiting). state_of i l rs) (sym at)
-
-pub release_none : (k : Table) (i : Inner) (t : ℕ) (ws : List Waiting) (rs : List Released) → ws ≡ [] → released_at k t (state_of i ws rs) ws ≡ state_of i ws rs
-release_none k i t ws rs at = ap (λ (l : List Waiting). released_at k t (state_of i l rs) l) at ∙ ap (λ (l : List Waiting). state_of i l rs) (sym at)

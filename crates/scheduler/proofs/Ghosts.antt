@@ -96,9 +96,6 @@ module _ (k : Records) (i : Inner) (gh : Steady k i) where
   abbrev pub balanced : Balanced i
   balanced = gh.balanced
 
-  pub task_room : (p : ℕ) → p < i.depth → (job_at i p).task < length i.spots
-  task_room p h = omega (arith, (known p h).0, k.copied.2, tall.1)
-
   -- a job more on the stack
   module _ (task deadline : ℕ) (room : i.depth < most_tasks) (in_table : task < k.sizes.tasks) (soon : deadline ≤ latest) (off : Off (spot_at i task)) where
     fresh : StackRecord
