@@ -9,7 +9,7 @@ use Rattle.machine.specs.Step.{goes, picked, selected}
 use Rattle.scheduler.specs.declared.stack.Inner.{Inner}
 use Rattle.scheduler.specs.View.{job_of, jobs_of, state_of, tally_of}
 use Rattle.scheduler.specs.Steady.{job_at}
-use Rattle.scheduler.specs.Moves.{top_of, pushed, goes_over, running_of, deadline_of, running_in}
+use Rattle.scheduler.specs.Moves.{top_of, pushed, goes_over, running_of, deadline_of}
 use Rattle.scheduler.specs.Calls.{running_job}
 use Rattle.scheduler.proofs.Jobs.{jobs_none, jobs_top, jobs_push, opens_none}
 
@@ -36,8 +36,13 @@ running_over i tall = by_depth i most_tasks (λ j js. j.task) tall
 pub deadline_over : (i : Inner) → i.depth ≤ length i.stack → deadline_of i ≡ top_deadline (jobs_of i.stack i.depth)
 deadline_over i tall = by_depth i None (λ j js. Some j.deadline) tall
 
-pub running_in_lem : (k : Table) (i : Inner) → i.depth ≤ length i.stack → running_in k i ≡ running_job k (jobs_of i.stack i.depth)
-running_in_lem k i tall = by_depth i None (λ j js. Some (record { task = j.task; deadline = j.deadline; inherited = inherited k j })) tall
+-- the running task with its deadlines
+pub none_runs : (k : Table) (i : Inner) → i.depth ≡ 0 → running_job k (jobs_of i.stack i.depth) ≡ None
+none_runs k i z = ap (λ n. running_job k (jobs_of i.stack n)) z ∙ ap (running_job k) (jobs_none i.stack)
+
+pub one_runs : (k : Table) (i : Inner) → 0 < i.depth → i.depth ≤ length i.stack
+    → running_job k (jobs_of i.stack i.depth) ≡ Some (record { task = (top_of i).task; deadline = (top_of i).deadline; inherited = inherited k (job_of (top_of i)) })
+one_runs k i some tall = ap (running_job k) (jobs_top i.stack i.depth some tall)
 
 module _ (k : Table) (i : Inner) (ws : List Waiting) (rs : List Released) where
   pub pick_yes :

@@ -1,6 +1,6 @@
 -- The place that is noted of a task is where it is: in one of the two lists, or on the stack.
-use Rattle.std.proofs.Common.{◌≡◌, ℕ, ◌<◌, ◌≤◌, Bool, true, false, cond, eqb, ltb, ◌≢◌, List, Some, None, Option, sym, refl, ap, ◌∙◌, inl, inr, arith}
-use Rattle.std.proofs.lemmas.Bool.{cond-true, cond-false, cases_lt, lt-ltb, le-ltb, eq-eqb, ne_eqb}
+use Rattle.std.proofs.Common.{◌≡◌, ℕ, ◌<◌, ◌≤◌, Bool, true, false, cond, eqb, ◌≢◌, List, Some, None, Option, sym, refl, ap, ◌∙◌, arith}
+use Rattle.std.proofs.lemmas.Bool.{eq-eqb, ne_eqb}
 use Rattle.std.proofs.ByRecursion.{All-weaker}
 use Rattle.table.specs.Limits.{most_tasks}
 use Rattle.queue.specs.declared.waiting.Waiting.{Waiting as WaitingEntry}
@@ -12,11 +12,11 @@ use Rattle.scheduler.specs.declared.stack.Spot.TheVariants.{Waiting, Released, S
 use Rattle.scheduler.specs.declared.stack.Inner.{Inner}
 use Rattle.scheduler.specs.declared.question.Place.{Place}
 use Rattle.scheduler.specs.declared.question.Place.TheVariants.{Waiting as IsWaiting, Released as IsReleased, Stacked as IsStacked}
-use Rattle.scheduler.specs.View.{jobs_of, state_of}
+use Rattle.scheduler.specs.View.{jobs_of}
 use Rattle.scheduler.specs.Steady.{job_at, spot_at, stands_at, Steady}
-use Rattle.scheduler.specs.Moves.{place_from, place_in}
+use Rattle.scheduler.specs.Moves.{place_from}
 use Rattle.scheduler.specs.Fitted.{WaitsIn, ReleasedIn, Listed}
-use Rattle.scheduler.specs.Calls.{stacked, place_of}
+use Rattle.scheduler.specs.Calls.{stacked}
 use Rattle.scheduler.proofs.Ghosts.{known}
 use Rattle.scheduler.proofs.Queues.{none_of}
 use Rattle.scheduler.proofs.Fits.{released_waits, stacked_waits, stacked_released, others_waiting, others_released}
@@ -44,7 +44,7 @@ module _ (k : Records) (i : Inner) (gh : Steady k i) (ws : List WaitingEntry) (r
   not_released other = none_of (λ e. e.task) task rs (others_released k i task rs other li.released)
 
   -- a task of the table, by its spot
-  place_by : task < k.sizes.tasks → (s : Spot) → s ≡ spot_at i task → Some (place_from s) ≡ chosen waits is_out_lem stands
+  pub place_by : task < k.sizes.tasks → (s : Spot) → s ≡ spot_at i task → Some (place_from s) ≡ chosen waits is_out_lem stands
   place_by lt Waiting is = ap (λ b. chosen b is_out_lem stands) (sym (li.waiting_all task lt (sym is)))
   place_by lt Released is =
       ap (λ b. chosen false b stands) (sym (li.released_all task lt (sym is)))
@@ -60,16 +60,9 @@ module _ (k : Records) (i : Inner) (gh : Steady k i) (ws : List WaitingEntry) (r
       ∙ ap (λ b. chosen b is_out_lem stands) (sym (not_waiting (stacked_waits (spot_at i task) at at-it)))
 
   -- a number outside the table
-  place_none : k.sizes.tasks ≤ task → None ≡ chosen waits is_out_lem stands
+  pub place_none : k.sizes.tasks ≤ task → None ≡ chosen waits is_out_lem stands
   place_none far =
       let a : waits ≡ false = none_of (λ w. w.task) task ws (All-weaker (WaitsIn k i) (λ w. w.task ≢ task) (λ w h e. omega (arith, h.0)) ws li.waiting) in
       let b : is_out_lem ≡ false = none_of (λ e. e.task) task rs (All-weaker (ReleasedIn k i) (λ e. e.task ≢ task) (λ e h q. omega (arith, h.0)) rs li.released) in
       let c : stands ≡ false = no_jobs (λ j. eqb j.task task) i.stack i.depth (high k i gh) (λ p h. ne_eqb (job_at i p).task task (λ e. omega (arith, (known k i gh p h).0))) in
       ap (λ x. chosen false false x) (sym c) ∙ ap (λ x. chosen false x stands) (sym b) ∙ ap (λ x. chosen x is_out_lem stands) (sym a)
-
-  pub place_over : place_in k i task ≡ place_of (state_of i ws rs) task
-  place_over =
-      elim (cases_lt task k.sizes.tasks) [
-        | inl lt ↦ cond-true (ltb task k.sizes.tasks) _ _ (lt-ltb _ _ lt) ∙ place_by lt (spot_at i task) refl
-        | inr far ↦ cond-false (ltb task k.sizes.tasks) _ _ (le-ltb _ _ far) ∙ place_none far
-      ]
