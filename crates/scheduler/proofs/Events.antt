@@ -10,13 +10,13 @@ use Rattle.machine.specs.Step.{top_expired, lapsed, released_at, release_of}
 use Rattle.scheduler.specs.declared.records.Records.{Records}
 use Rattle.scheduler.specs.declared.stack.Inner.{Inner}
 use Rattle.scheduler.specs.View.{table_of, job_of, jobs_of, state_of}
-use Rattle.scheduler.specs.Steady.{next_of, Steady}
+use Rattle.scheduler.specs.Steady.{Steady}
 use Rattle.scheduler.specs.Moves.{top_of, most, expired_by, is_due, again_of}
 use Rattle.scheduler.specs.Moves.{lapsed_by, released_by}
 use Rattle.scheduler.specs.Fitted.{Listed}
 use Rattle.scheduler.proofs.Jobs.{jobs_none, jobs_top, opens_length}
 use Rattle.scheduler.proofs.Ghosts.{tall, known}
-use Rattle.scheduler.proofs.Fits.{releases_few}
+use Rattle.scheduler.proofs.Fits.{next_wait, releases_few}
 
 module _ (k : Records) (i : Inner) (gh : Steady k i) where
   pub high : i.depth ≤ length i.stack
@@ -73,15 +73,12 @@ module _ (k : Records) (i : Inner) (gh : Steady k i) where
 
 -- the first released job ends at its deadline
 module _ (k : Table) (i : Inner) (t : ℕ) (ws : List Waiting) (rs : List Released) (e : Released) (es : List Released) (at : rs ≡ e ∷ es) where
-  abbrev entry : Waiting
-  entry = record { release = next_of k e.task e.deadline; task = e.task }
-
   pub lapse_step :
-      eqb e.deadline t ≡ true → lapsed k t (state_of (lapsed_by i e.task) (insert_sorted waiting_before entry ws) es) es ≡ lapsed k t (state_of i ws rs) rs
+      eqb e.deadline t ≡ true → lapsed k t (state_of (lapsed_by i e.task) (insert_sorted waiting_before (next_wait k e.task e.deadline) ws) es) es ≡ lapsed k t (state_of i ws rs) rs
   lapse_step now =
       let state : ℕ → State = λ n. record {
         clock = i.clock;
-        waiting = insert_sorted waiting_before entry ws;
+        waiting = insert_sorted waiting_before (next_wait k e.task e.deadline) ws;
         released = es;
         stack = jobs_of i.stack i.depth;
         counts = record { releases = i.counts.releases; finishes = i.counts.finishes; expiries = i.counts.expiries + 1; entries = i.counts.entries; leaves = i.counts.leaves; taken = n };

@@ -11,7 +11,7 @@ use Rattle.queue.specs.Meaning.{queued}
 use Rattle.queue.specs.Answer.{inserted}
 use Rattle.queue.specs.Entries.{waiting_before, released_before, waiting_order, released_order}
 use Rattle.queue.proofs.Queued.{queued_insert}
-use Rattle.machine.specs.State.{Job}
+use Rattle.machine.specs.State.{Table, Job}
 use Rattle.machine.specs.Step.{last_instant, release_of}
 use Rattle.machine.proofs.Lists.{all_insert, all_map2}
 use Rattle.machine.proofs.Flow.{length-insert}
@@ -39,6 +39,10 @@ stacked_released s p t e = false≢true (sym (ap (λ x. stands_at x p) e) ∙ t)
 
 pub released_waits : (s : Spot) → s ≡ IsReleased → s ≡ Waits → ⊥
 released_waits s a b = let z : ◌≡◌ {A = ℕ} 0 1 = cc in omega arith
+
+-- the entry with which a task waits after a job of it
+abbrev pub next_wait : Table → ℕ → ℕ → Waiting
+next_wait k task deadline = record { release = next_of k task deadline; task = task }
 
 module _ (k : Records) (i : Inner) where
   -- tasks with another spot are other tasks
@@ -123,7 +127,7 @@ module _ (k : Records) (i : Inner) (gh : Steady k i) where
       top_soon = (known k i gh (i.depth - 1) (omega arith)).1
 
       abbrev again : Waiting
-      again = record { release = next_of (table_of k) (top_of i).task (top_of i).deadline; task = (top_of i).task }
+      again = next_wait (table_of k) (top_of i).task (top_of i).deadline
 
       end_apart : AllByRecursion (λ w. w.task ≢ (top_of i).task) ws
       end_apart = others_waiting k i (top_of i).task ws (stacked_waits (spot_at i (top_of i).task) (i.depth - 1) top_stands) li.waiting
@@ -205,7 +209,7 @@ module _ (k : Records) (i : Inner) (gh : Steady k i) where
 
     -- or lapses
     abbrev waits : Waiting
-    waits = record { release = next_of (table_of k) e.task e.deadline; task = e.task }
+    waits = next_wait (table_of k) e.task e.deadline
 
     pub lapse_put : inserted waiting_order wc waits ws ≡ insert_sorted waiting_before waits ws
     lapse_put =
