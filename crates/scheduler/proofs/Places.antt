@@ -21,7 +21,7 @@ use Rattle.scheduler.proofs.Ghosts.{known}
 use Rattle.scheduler.proofs.Queues.{none_of}
 use Rattle.scheduler.proofs.Fits.{released_waits, stacked_waits, stacked_released, others_waiting, others_released}
 use Rattle.scheduler.proofs.Events.{high}
-use Rattle.scheduler.proofs.Grants.{no_jobs, one_job, other_job, stood_at, stood_task}
+use Rattle.scheduler.proofs.Grants.{no_jobs, one_job, other_job, stood_here}
 
 module _ (k : Records) (i : Inner) (gh : Steady k i) (ws : List WaitingEntry) (rs : List ReleasedEntry) (wc rc : ℕ) (li : Listed k i ws rs wc rc) (task : ℕ) where
   abbrev waits : Bool
@@ -52,9 +52,10 @@ module _ (k : Records) (i : Inner) (gh : Steady k i) (ws : List WaitingEntry) (r
   place_by lt (Stacked at) is =
       let small : task < most_tasks = omega (arith, lt, k.copied.2) in
       let at-it = ap (λ (s : Spot). stands_at s at) (sym is) ∙ eq-eqb at at refl in
+      let stood = stood_here k i gh task small at (sym is) in
       let here : stands ≡ true =
-      one_job (λ j. eqb j.task task) i.stack i.depth at (high k i gh) (stood_at k i gh task small at (sym is)) (λ q h ne. other_job k i gh task small at (sym is) q h ne)
-      ∙ stood_task k i gh task small at (sym is) in
+      one_job (λ j. eqb j.task task) i.stack i.depth at (high k i gh) stood.0 (λ q h ne. other_job k i gh task small at (sym is) q h ne)
+      ∙ stood.1 in
       ap (λ b. chosen false false b) (sym here)
       ∙ ap (λ b. chosen false b stands) (sym (not_released (stacked_released (spot_at i task) at at-it)))
       ∙ ap (λ b. chosen b is_out_lem stands) (sym (not_waiting (stacked_waits (spot_at i task) at at-it)))
