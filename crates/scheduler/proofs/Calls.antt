@@ -11,10 +11,11 @@ use Rattle.queue.specs.Entries.{waiting_before}
 use Rattle.admission.proofs.Nesting.{Inside, nesting_within}
 use Rattle.admission.proofs.Nesting.{innermost_of as innermost_section}
 use Rattle.machine.specs.declared.call.Call.TheVariants.{Advance, Enter, Finish}
-use Rattle.machine.specs.declared.call.Answer.TheVariants.{Granted, Running}
+use Rattle.machine.specs.declared.call.Answer.TheVariants.{Granted}
 use Rattle.machine.specs.declared.call.Refusal.{Refusal}
-use Rattle.machine.specs.State.{Table, Open, State, section_at, running}
+use Rattle.machine.specs.State.{Table, Open, State, section_at}
 use Rattle.machine.specs.Step.{Outcome, refused, step, most_entries, not_advanced, top_expired, lapsed, released_at, clock_at, advanced, advanced_answer, same_place, innermost, enterable, ticket, selected}
+use Rattle.machine.proofs.Cases.{chosen}
 use Rattle.scheduler.specs.declared.records.Records.{Records}
 use Rattle.scheduler.specs.declared.stack.Inner.{Inner}
 use Rattle.scheduler.specs.View.{table_of, job_of, state_of}
@@ -23,8 +24,8 @@ use Rattle.scheduler.specs.Moves.{top_of, no_open, innermost_of, enterable_at, e
 use Rattle.scheduler.specs.Moves.{entered_by, finished_by}
 use Rattle.scheduler.proofs.Jobs.{jobs_none, jobs_top, jobs_set, opens_none, opens_top, opens_push}
 use Rattle.scheduler.proofs.Facts.{section_at_lem, sections_length}
-use Rattle.scheduler.proofs.Ghosts.{tall, known}
-use Rattle.scheduler.proofs.Events.{high, top_count}
+use Rattle.scheduler.proofs.Ghosts.{high, wide, tall}
+use Rattle.scheduler.proofs.Events.{top_count}
 
 -- what a call comes to, by whether it is refused
 abbrev pub by_refusal : Option Refusal → State → Outcome → Outcome
@@ -39,11 +40,8 @@ module _ (k : Records) (i : Inner) (ws : List Waiting) (rs : List Released) wher
   abbrev pub granted : ℕ → Outcome
   granted x = record { state = state_of (entered_by i x) ws rs; answer = Granted (ticket (job_of (top_of i)) x i.counts.entries) }
 
-  abbrev ended : State
-  ended = state_of (finished_by i) (insert_sorted waiting_before (again_of (table_of k) i) ws) rs
-
   abbrev pub done : Outcome
-  done = record { state = selected (table_of k) ended; answer = Running (running (selected (table_of k) ended).stack) }
+  done = chosen (table_of k) (state_of (finished_by i) (insert_sorted waiting_before (again_of (table_of k) i) ws) rs)
 
 -- open sections that lie in one another do so by number
 abbrev numbers : List Open → List ℕ
@@ -71,15 +69,12 @@ chain_short k os c =
     omega (arith, length-map os (λ (o : Open). o.section), nesting_within (table_of k).tasks (table_of k).sections k.copied.4 (numbers os) (chain_inside (table_of k) os c))
 
 module _ (k : Records) (i : Inner) (gh : Steady k i) where
-  wide : (p : ℕ) → p < i.depth → (job_at i p).count ≤ length (job_at i p).opened
-  wide p h = omega (arith, (known k i gh p h).2, (tall k i gh).3 p (omega (arith, (tall k i gh).2)))
-
   -- the innermost open section
   innermost_over : (p : ℕ) → p < i.depth → innermost_of (job_at i p) ≡ innermost (job_of (job_at i p)).opened
   innermost_over p h =
       let r = job_at i p in
       let none = opens_none r.opened in
-      let top = λ (some : 0 < r.count). opens_top r.opened r.count no_open some (wide p h) in
+      let top = λ (some : 0 < r.count). opens_top r.opened r.count no_open some (wide k i gh p h) in
       grind (arith, nat_tests)
 
   -- whether a section is open to entry
@@ -130,7 +125,7 @@ module _ (k : Records) (i : Inner) (gh : Steady k i) where
         let empty = jobs_none i.stack in
         let top = λ (some : 0 < i.depth). jobs_top i.stack i.depth some (high k i gh) in
         let none = opens_none r.opened in
-        let more = λ (some : 0 < i.depth) (more : 0 < r.count). opens_top r.opened r.count no_open more (wide (i.depth - 1) (omega arith)) in
+        let more = λ (some : 0 < i.depth) (more : 0 < r.count). opens_top r.opened r.count no_open more (wide k i gh (i.depth - 1) (omega arith)) in
         grind (arith, nat_tests)
 
 pub finish_some : (i : Inner) → finish_refusal i ≡ None → (0 < i.depth) × ((top_of i).count ≡ 0)

@@ -1,5 +1,5 @@
 -- What an advance does before selection, over the core's own fields and the queues' lists, is what the machine does.
-use Rattle.std.proofs.Common.{◌≡◌, ℕ, ◌+◌, ◌-◌, ◌<◌, ◌≤◌, true, false, ◌&&◌, eqb, ltb, List, ◌∷◌, length, sym, ap, ◌∙◌, subst, inl, inr, add-zero, arith}
+use Rattle.std.proofs.Common.{◌≡◌, ℕ, ◌+◌, ◌-◌, ◌<◌, true, false, ◌&&◌, eqb, ltb, List, ◌∷◌, length, sym, ap, ◌∙◌, subst, inl, inr, add-zero, arith}
 use Rattle.std.proofs.lemmas.Bool.{cond-true, cond-false, and_parts, cases_lt, ltb-true, lt-ltb}
 use Rattle.queue.specs.declared.waiting.Waiting.{Waiting}
 use Rattle.queue.specs.declared.released.Released.{Released}
@@ -15,16 +15,12 @@ use Rattle.scheduler.specs.Moves.{top_of, most, expired_by, is_due, again_of}
 use Rattle.scheduler.specs.Moves.{lapsed_by, released_by}
 use Rattle.scheduler.specs.Fitted.{Listed}
 use Rattle.scheduler.proofs.Jobs.{jobs_none, jobs_top, opens_length}
-use Rattle.scheduler.proofs.Ghosts.{tall, known}
+use Rattle.scheduler.proofs.Ghosts.{high, wide}
 use Rattle.scheduler.proofs.Fits.{next_wait, releases_few}
 
 module _ (k : Records) (i : Inner) (gh : Steady k i) where
-  pub high : i.depth ≤ length i.stack
-  high = omega (arith, (tall k i gh).0, (tall k i gh).2)
-
   pub top_count : 0 < i.depth → length (job_of (top_of i)).opened ≡ (top_of i).count
-  top_count some =
-      opens_length (top_of i).opened (top_of i).count (omega (arith, (known k i gh (i.depth - 1) (omega arith)).2, (tall k i gh).3 (i.depth - 1) (omega (arith, (tall k i gh).2))))
+  top_count some = opens_length (top_of i).opened (top_of i).count (wide k i gh (i.depth - 1) (omega arith))
 
   -- no count of jobs comes near the end of its type
   module _ (ws : List Waiting) (rs : List Released) (wc rc : ℕ) (li : Listed k i ws rs wc rc) where
@@ -54,7 +50,7 @@ module _ (k : Records) (i : Inner) (gh : Steady k i) where
         } in
         ap state (sym (top_count (due_some d)))
         ∙ sym (cond-true (eqb (top_of i).deadline t) (state (length (job_of (top_of i)).opened)) (state_of i ws rs) (and_parts (ltb 0 i.depth) _ d).1)
-        ∙ ap (top_expired (table_of k) t (state_of i ws rs)) (sym (jobs_top i.stack i.depth (due_some d) high))
+        ∙ ap (top_expired (table_of k) t (state_of i ws rs)) (sym (jobs_top i.stack i.depth (due_some d) (high k i gh)))
 
     empty_stays : i.depth ≡ 0 → state_of i ws rs ≡ top_expired (table_of k) t (state_of i ws rs) (jobs_of i.stack i.depth)
     empty_stays z = ap (top_expired (table_of k) t (state_of i ws rs)) (sym (ap (jobs_of i.stack) z ∙ jobs_none i.stack))
@@ -62,7 +58,7 @@ module _ (k : Records) (i : Inner) (gh : Steady k i) where
     later_stays : 0 < i.depth → eqb (top_of i).deadline t ≡ false → state_of i ws rs ≡ top_expired (table_of k) t (state_of i ws rs) (jobs_of i.stack i.depth)
     later_stays some later =
         sym (cond-false (eqb (top_of i).deadline t) _ (state_of i ws rs) later)
-        ∙ ap (top_expired (table_of k) t (state_of i ws rs)) (sym (jobs_top i.stack i.depth some high))
+        ∙ ap (top_expired (table_of k) t (state_of i ws rs)) (sym (jobs_top i.stack i.depth some (high k i gh)))
 
     pub expire_no : is_due i t ≡ false → state_of i ws rs ≡ top_expired (table_of k) t (state_of i ws rs) (jobs_of i.stack i.depth)
     expire_no d =

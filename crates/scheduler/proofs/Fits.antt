@@ -27,7 +27,7 @@ use Rattle.scheduler.specs.Moves.{with_counts, with_spot, with_top, top_of, push
 use Rattle.scheduler.specs.Fitted.{sum_of, WaitsIn, ReleasedIn, Listed}
 use Rattle.scheduler.proofs.Jobs.{jobs_top, jobs_push, jobs_set, jobs_length}
 use Rattle.scheduler.proofs.Facts.{timed_at}
-use Rattle.scheduler.proofs.Ghosts.{tall, known, noted, spot_same, spot_other}
+use Rattle.scheduler.proofs.Ghosts.{high, tall, known, noted, spot_same, spot_other}
 use Rattle.scheduler.proofs.Queues.{put_in, none_of, not_of, sum-insert, sum-most, jobs_each}
 
 -- the three spots are different
@@ -100,9 +100,6 @@ module _ (k : Records) (i : Inner) (gh : Steady k i) where
     stay_all : (task : ℕ) (s : Spot) (xs : List E) → (s ≡ v → ⊥) → Covers i xs → Covers (with_spot i task s) xs
     stay_all task s xs not = keep_all task s xs xs (λ e. absurd (not e)) (λ t _ q. q)
 
-  depth_room : i.depth ≤ length i.stack
-  depth_room = omega (arith, (tall k i gh).0, (tall k i gh).2)
-
   module _ (ws : List Waiting) (rs : List Released) (wc rc : ℕ) (li : Listed k i ws rs wc rc) where
     pub releases_few : i.counts.releases ≤ 32 * (latest + largest)
     releases_few =
@@ -110,9 +107,9 @@ module _ (k : Records) (i : Inner) (gh : Steady k i) where
         let b = sum-most (λ (e : Released). next_of (table_of k) e.task e.deadline) (latest + largest) rs
         (All-weaker (ReleasedIn k i) (λ e. next_of (table_of k) e.task e.deadline ≤ latest + largest) (λ e h. next_near e.task e.deadline h.0 h.2) rs li.released) in
         let c = sum-most (λ (j : Job). next_of (table_of k) j.task j.deadline) (latest + largest) (jobs_of i.stack i.depth)
-        (jobs_each (λ j. next_of (table_of k) j.task j.deadline ≤ latest + largest) i.stack i.depth depth_room
+        (jobs_each (λ j. next_of (table_of k) j.task j.deadline ≤ latest + largest) i.stack i.depth (high k i gh)
         (λ p h. next_near (job_at i p).task (job_at i p).deadline (known k i gh p h).0 (known k i gh p h).1)) in
-        let d = jobs_length i.stack i.depth depth_room in
+        let d = jobs_length i.stack i.depth (high k i gh) in
         omega (arith, a, b, c, d, li.few, li.places, k.copied.2)
 
     -- the job at the top ends: its task waits for its next release
@@ -140,7 +137,7 @@ module _ (k : Records) (i : Inner) (gh : Steady k i) where
           → Listed k (popped (with_counts i c)) (insert_sorted waiting_before again ws) rs wc rc
       end_listed c re fe =
           let sum = sum-insert (λ (w : Waiting). w.release) waiting_before again ws in
-          let jobs = ap (sum_of (λ (j : Job). next_of (table_of k) j.task j.deadline)) (jobs_top i.stack i.depth some depth_room) in
+          let jobs = ap (sum_of (λ (j : Job). next_of (table_of k) j.task j.deadline)) (jobs_top i.stack i.depth some (high k i gh)) in
           record {
             waiting_room = li.waiting_room;
             released_room = li.released_room;
@@ -162,8 +159,8 @@ module _ (k : Records) (i : Inner) (gh : Steady k i) where
         → c.finishes ≡ i.counts.finishes → c.expiries ≡ i.counts.expiries → Listed k (with_counts (with_top i r) c) ws rs wc rc
     top_listed r c some own due re fi ex =
         let f : Job → ℕ = λ j. next_of (table_of k) j.task j.deadline in
-        let old = ap (sum_of f) (jobs_top i.stack i.depth some depth_room) in
-        let new = ap (sum_of f) (jobs_set i.stack i.depth r some depth_room) in
+        let old = ap (sum_of f) (jobs_top i.stack i.depth some (high k i gh)) in
+        let new = ap (sum_of f) (jobs_set i.stack i.depth r some (high k i gh)) in
         let next : next_of (table_of k) r.task r.deadline ≡ next_of (table_of k) (top_of i).task (top_of i).deadline =
         ap (λ t. next_of (table_of k) t r.deadline) own ∙ ap (next_of (table_of k) (top_of i).task) due in
         record {

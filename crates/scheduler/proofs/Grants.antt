@@ -7,10 +7,10 @@ use Rattle.queue.specs.declared.waiting.Waiting.{Waiting as WaitingEntry}
 use Rattle.queue.specs.declared.released.Released.{Released as ReleasedEntry}
 use Rattle.machine.specs.declared.call.Ticket.{Ticket}
 use Rattle.machine.specs.declared.call.Call.TheVariants.{Leave}
-use Rattle.machine.specs.declared.call.Answer.TheVariants.{Running}
 use Rattle.machine.specs.declared.call.Refusal.TheVariants.{NotInnermost, NotOpen}
-use Rattle.machine.specs.State.{Job, State, running}
-use Rattle.machine.specs.Step.{Outcome, refused, step, among_open, grant_open, selected}
+use Rattle.machine.specs.State.{Job}
+use Rattle.machine.specs.Step.{refused, step, among_open, grant_open}
+use Rattle.machine.proofs.Cases.{chosen}
 use Rattle.scheduler.specs.declared.records.Records.{Records}
 use Rattle.scheduler.specs.declared.stack.StackRecord.{StackRecord}
 use Rattle.scheduler.specs.declared.stack.Spot.{Spot}
@@ -21,8 +21,7 @@ use Rattle.scheduler.specs.Steady.{no_record, job_at, spot_at, stands_at, Steady
 use Rattle.scheduler.specs.Moves.{top_of, no_open, with_closed, innermost_for, open_for, opened_for}
 use Rattle.scheduler.specs.Moves.{left_by}
 use Rattle.scheduler.proofs.Jobs.{jobs_none, jobs_top, jobs_more, jobs_set, opens_none, opens_top}
-use Rattle.scheduler.proofs.Ghosts.{tall, known, noted, placed}
-use Rattle.scheduler.proofs.Events.{high}
+use Rattle.scheduler.proofs.Ghosts.{high, wide, known, noted, placed}
 
 -- something that holds of a stack if it does of one of its jobs
 module _ (test : Job → Bool) (rs : List StackRecord) where
@@ -75,9 +74,6 @@ module _ (k : Records) (i : Inner) (gh : Steady k i) (task : ℕ) where
         let off : stands_at (Stacked at) p ≡ false = grind (arith, nat_tests) in
         grind (arith, nat_tests)
 
-long : (k : Records) (i : Inner) (gh : Steady k i) → 0 < i.depth → (top_of i).count ≤ length (top_of i).opened
-long k i gh some = omega (arith, (known k i gh (i.depth - 1) (omega arith)).2, (tall k i gh).3 (i.depth - 1) (omega (arith, (tall k i gh).2)))
-
 -- a grant is open where the note of its task says
 module _ (k : Records) (i : Inner) (gh : Steady k i) (g : Ticket) where
   abbrev holds : Job → Bool
@@ -108,21 +104,17 @@ module _ (k : Records) (i : Inner) (gh : Steady k i) (g : Ticket) where
   leave_some e = grind (arith, nat_tests)
 
   module _ (ws : List WaitingEntry) (rs : List ReleasedEntry) where
-    abbrev freed : State
-    freed = state_of (left_by i) ws rs
-
-    abbrev pub gone : Outcome
-    gone = record { state = selected (table_of k) freed; answer = Running (running (selected (table_of k) freed).stack) }
-
-    pub leave_is : step (table_of k) (Leave g) (state_of i ws rs) ≡ (if innermost_for g i then gone else if opened_for g i then refused (state_of i ws rs) (NotInnermost g) else refused (state_of i ws rs) NotOpen)
+    pub leave_is :
+        {a b : Bool} → innermost_for g i ≡ a → opened_for g i ≡ b
+        → step (table_of k) (Leave g) (state_of i ws rs)
+        ≡ (if a then chosen (table_of k) (state_of (left_by i) ws rs) else if b then refused (state_of i ws rs) (NotInnermost g) else refused (state_of i ws rs) NotOpen)
     unfolding step
-    leave_is =
+    leave_is {a} {b} top_is open_is =
         let r = top_of i in
-        let wide = λ (some : 0 < i.depth). long k i gh some in
         let empty = jobs_none i.stack in
         let top = λ (some : 0 < i.depth). jobs_top i.stack i.depth some (high k i gh) in
         let none = opens_none r.opened in
-        let more = λ (some : 0 < i.depth) (more : 0 < r.count). opens_top r.opened r.count no_open more (wide some) in
+        let more = λ (some : 0 < i.depth) (more : 0 < r.count). opens_top r.opened r.count no_open more (wide k i gh (i.depth - 1) (omega arith)) in
         let freed = λ (some : 0 < i.depth). jobs_set i.stack i.depth (with_closed r) some (high k i gh) in
         let over = opened_over in
         grind (arith, nat_tests)

@@ -17,10 +17,9 @@ use Rattle.scheduler.specs.Steady.{job_at, spot_at, stands_at, Steady}
 use Rattle.scheduler.specs.Moves.{place_from}
 use Rattle.scheduler.specs.Fitted.{WaitsIn, ReleasedIn, Listed}
 use Rattle.scheduler.specs.Calls.{stacked}
-use Rattle.scheduler.proofs.Ghosts.{known}
+use Rattle.scheduler.proofs.Ghosts.{high, known}
 use Rattle.scheduler.proofs.Queues.{none_of}
 use Rattle.scheduler.proofs.Fits.{released_waits, stacked_waits, stacked_released, others_waiting, others_released}
-use Rattle.scheduler.proofs.Events.{high}
 use Rattle.scheduler.proofs.Grants.{no_jobs, one_job, other_job, stood_here}
 
 module _ (k : Records) (i : Inner) (gh : Steady k i) (ws : List WaitingEntry) (rs : List ReleasedEntry) (wc rc : ℕ) (li : Listed k i ws rs wc rc) (task : ℕ) where

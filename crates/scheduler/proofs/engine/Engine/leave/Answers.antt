@@ -1,22 +1,22 @@
 use Rattle.std.proofs.Common.{◌≡◌, ◌-◌, ◌<◌, sym, refl, ap, ◌∙◌, subst, arith}
-use Rattle.std.proofs.lemmas.Bool.{cond-true, cond-false}
 use Rattle.machine.specs.declared.call.Call.TheVariants.{Leave}
 use Rattle.machine.specs.declared.call.Answer.TheVariants.{Running}
 use Rattle.machine.specs.declared.call.Refusal.TheVariants.{NotInnermost, NotOpen}
 use Rattle.machine.specs.State.{State, running}
 use Rattle.machine.specs.Step.{Outcome, step, refused, selected}
+use Rattle.machine.proofs.Cases.{chosen}
 use Rattle.scheduler.specs.declared.stack.Inner.{Inner}
 use Rattle.scheduler.specs.Answered.{told}
 use Rattle.scheduler.specs.View.{table_of, open_of, opens_of, jobs_of, state_of}
 use Rattle.scheduler.specs.Steady.{Steady, chained}
-use Rattle.scheduler.specs.Moves.{top_of, no_open, last_open, with_closed, left_by, innermost_for, opened_for}
+use Rattle.scheduler.specs.Moves.{top_of, no_open, last_open, with_closed, left_by}
 use Rattle.scheduler.specs.Parts.{Parts, state_in}
 use Rattle.scheduler.proofs.Jobs.{opens_top}
 use Rattle.scheduler.proofs.Facts.{chained_parts}
 use Rattle.scheduler.proofs.Ghosts.{top_open, top_ghosts}
 use Rattle.scheduler.proofs.Fits.{top_listed, listed_as}
 use Rattle.scheduler.proofs.Picks.{running_over}
-use Rattle.scheduler.proofs.Grants.{gone, leave_some, leave_is}
+use Rattle.scheduler.proofs.Grants.{leave_some, leave_is}
 use Rattle.scheduler.proofs.engine.Engine.leave.Given.{Over}
 use Rattle.scheduler.proofs.engine.Engine.leave.Goals as goal
 
@@ -26,11 +26,7 @@ kept_is : (g : Over) (c : goal.Then-is_open g)
     step (table_of p.records) (Leave c.args.grant.ticket) s ≡ refused s (NotInnermost c.args.grant.ticket)
 kept_is g c =
     let p = c.self.inside in
-    let ticket = c.args.grant.ticket in
-    let open-still = ap (λ (q : Parts _ _). opened_for ticket q.inner) c.self.view_is ∙ sym c.if-is_open.ensures in
-    leave_is p.records p.inner c.self.invariant.steady ticket (g.W.Queue.list p.waiting) (g.R.Queue.list p.released)
-    ∙ cond-false (innermost_for ticket p.inner) _ _ (sym c.if-not-is_innermost.ensures)
-    ∙ cond-true (opened_for ticket p.inner) _ _ open-still
+    leave_is p.records p.inner c.self.invariant.steady c.args.grant.ticket _ _ (sym c.if-not-is_innermost.ensures) (sym (rw (← c.self.view_is) at c.if-is_open.ensures))
 
 pub returns-then-is_open-clause-value : goal.returns-then-is_open-clause-value
 returns-then-is_open-clause-value g c = rw (← c.self.view_is) (ap (λ (o : Outcome). told o.answer) (sym (kept_is g c)))
@@ -44,11 +40,7 @@ spent_is : (g : Over) (c : goal.Else-is_open g)
     step (table_of p.records) (Leave c.args.grant.ticket) s ≡ refused s NotOpen
 spent_is g c =
     let p = c.self.inside in
-    let ticket = c.args.grant.ticket in
-    let shut = ap (λ (q : Parts _ _). opened_for ticket q.inner) c.self.view_is ∙ sym c.if-is_open.ensures in
-    leave_is p.records p.inner c.self.invariant.steady ticket (g.W.Queue.list p.waiting) (g.R.Queue.list p.released)
-    ∙ cond-false (innermost_for ticket p.inner) _ _ (sym c.if-not-is_innermost.ensures)
-    ∙ cond-false (opened_for ticket p.inner) _ _ shut
+    leave_is p.records p.inner c.self.invariant.steady c.args.grant.ticket _ _ (sym c.if-not-is_innermost.ensures) (sym (rw (← c.self.view_is) at c.if-is_open.ensures))
 
 pub returns-then-not-is_innermost-clause-value : goal.returns-then-not-is_innermost-clause-value
 returns-then-not-is_innermost-clause-value g c = rw (← c.self.view_is) (ap (λ (o : Outcome). told o.answer) (sym (spent_is g c)))
@@ -86,21 +78,18 @@ invariant_of-self g c =
 
 -- a leave that is not refused is the machine's, and leaves its state
 module _ (g : Over) (c : goal.After-running g) where
-  gone_is :
-      let p = c.self.inside in let ws = g.W.Queue.list p.waiting in let rs = g.R.Queue.list p.released in
-      step (table_of p.records) (Leave c.args.grant.ticket) (state_of p.inner ws rs) ≡ gone p.records p.inner c.self.invariant.steady c.args.grant.ticket ws rs
-  gone_is =
-      let p = c.self.inside in
-      let ticket = c.args.grant.ticket in
-      leave_is p.records p.inner c.self.invariant.steady ticket (g.W.Queue.list p.waiting) (g.R.Queue.list p.released)
-      ∙ cond-true (innermost_for ticket p.inner) _ _ (sym c.if-not-is_innermost.ensures)
+  abbrev freed : State
+  freed = state_of (left_by c.self.inside.inner) (g.W.Queue.list c.self.inside.waiting) (g.R.Queue.list c.self.inside.released)
 
-  reached :
-      let p = c.self.inside in let ws = g.W.Queue.list p.waiting in let rs = g.R.Queue.list p.released in
-      state_in g.W.Queue g.R.Queue c.select.new.self ≡ (gone p.records p.inner c.self.invariant.steady c.args.grant.ticket ws rs).state
+  gone_is :
+      let p = c.self.inside in
+      step (table_of p.records) (Leave c.args.grant.ticket) (state_of p.inner (g.W.Queue.list p.waiting) (g.R.Queue.list p.released)) ≡ chosen (table_of p.records) freed
+  gone_is = let p = c.self.inside in leave_is p.records p.inner c.self.invariant.steady c.args.grant.ticket _ _ (sym c.if-not-is_innermost.ensures) refl
+
+  reached : state_in g.W.Queue g.R.Queue c.select.new.self ≡ selected (table_of c.self.inside.records) freed
   reached =
       let p = c.self.inside in
-      c.select.ensures.after ∙ ap (selected (table_of p.records)) (ap (λ (i : Inner). state_of i (g.W.Queue.list p.waiting) (g.R.Queue.list p.released)) c.leave.ensures)
+      c.select.ensures.after ∙ ap (λ (i : Inner). selected (table_of p.records) (state_of i (g.W.Queue.list p.waiting) (g.R.Queue.list p.released))) c.leave.ensures
 
 pub returns-clause-value : goal.returns-clause-value
 returns-clause-value g c =

@@ -4,7 +4,7 @@ use Rattle.scheduler.specs.View.{table_of, state_of}
 use Rattle.scheduler.specs.Moves.{pushed}
 use Rattle.scheduler.proofs.Queues.{first_is, none_first}
 use Rattle.scheduler.proofs.Picks.{goes_over_lem, pick_yes, pick_no, pick_none}
-use Rattle.scheduler.proofs.Events.{high}
+use Rattle.scheduler.proofs.Ghosts.{high}
 use Rattle.scheduler.proofs.Steps.{Left, job_room, picked_up}
 use Rattle.scheduler.proofs.engine.Engine.select.Given.{Over}
 use Rattle.scheduler.proofs.engine.Engine.select.Goals as goal
