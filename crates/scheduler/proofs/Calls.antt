@@ -24,7 +24,7 @@ use Rattle.scheduler.specs.Moves.{top_of, no_open, innermost_of, enterable_at, e
 use Rattle.scheduler.specs.Moves.{entered_by, finished_by}
 use Rattle.scheduler.proofs.Jobs.{jobs_none, jobs_top, jobs_set, opens_none, opens_top, opens_push}
 use Rattle.scheduler.proofs.Facts.{section_at_lem, sections_length}
-use Rattle.scheduler.proofs.Ghosts.{high, wide, tall}
+use Rattle.scheduler.proofs.Ghosts.{high, wide}
 use Rattle.scheduler.proofs.Events.{top_count}
 
 -- what a call comes to, by whether it is refused
@@ -115,7 +115,7 @@ module _ (k : Records) (i : Inner) (gh : Steady k i) where
         let may = λ (some : 0 < i.depth). enterable_over x (i.depth - 1) (omega arith) in
         let new = λ (some : 0 < i.depth). jobs_set i.stack i.depth (with_open x i.counts.entries (top_of i)) some (high k i gh) in
         let fits = λ (e : enter_refusal k i x ≡ None). opens_push (top_of i).opened (top_of i).count (record { section = x; serial = i.counts.entries })
-        (let a = enter_some x e in omega (arith, a.room, (tall k i gh).3 (i.depth - 1) (omega (arith, (tall k i gh).2, a.some)))) in
+        (let a = enter_some x e in omega (arith, a.room, gh.tall.3 (i.depth - 1) (omega (arith, gh.tall.2, a.some)))) in
         grind (arith, nat_tests)
 
     pub finish_is : {o : Option Refusal} → finish_refusal i ≡ o → step (table_of k) Finish (state_of i ws rs) ≡ by_refusal o (state_of i ws rs) (done k i ws rs)

@@ -27,7 +27,7 @@ use Rattle.scheduler.specs.Moves.{with_counts, with_spot, with_top, top_of, push
 use Rattle.scheduler.specs.Fitted.{sum_of, WaitsIn, ReleasedIn, Listed}
 use Rattle.scheduler.proofs.Jobs.{jobs_top, jobs_push, jobs_set, jobs_length}
 use Rattle.scheduler.proofs.Facts.{timed_at}
-use Rattle.scheduler.proofs.Ghosts.{high, tall, known, noted, spot_same, spot_other}
+use Rattle.scheduler.proofs.Ghosts.{high, spot_same, spot_other}
 use Rattle.scheduler.proofs.Queues.{put_in, none_of, not_of, sum-insert, sum-most, jobs_each}
 
 -- the three spots are different
@@ -67,7 +67,7 @@ module _ (k : Records) (i : Inner) (gh : Steady k i) where
   next_near task deadline h soon = omega (arith, (timed_at k task h).near)
 
   spot_room : (task : ℕ) → task < k.sizes.tasks → task < length i.spots
-  spot_room task h = omega (arith, k.copied.2, (tall k i gh).1)
+  spot_room task h = omega (arith, k.copied.2, gh.tall.1)
 
   -- every task with a spot is among the entries
   module _ {E : Type 0} (f : E → ℕ) (v : Spot) where
@@ -108,20 +108,20 @@ module _ (k : Records) (i : Inner) (gh : Steady k i) where
         (All-weaker (ReleasedIn k i) (λ e. next_of (table_of k) e.task e.deadline ≤ latest + largest) (λ e h. next_near e.task e.deadline h.0 h.2) rs li.released) in
         let c = sum-most (λ (j : Job). next_of (table_of k) j.task j.deadline) (latest + largest) (jobs_of i.stack i.depth)
         (jobs_each (λ j. next_of (table_of k) j.task j.deadline ≤ latest + largest) i.stack i.depth (high k i gh)
-        (λ p h. next_near (job_at i p).task (job_at i p).deadline (known k i gh p h).0 (known k i gh p h).1)) in
+        (λ p h. next_near (job_at i p).task (job_at i p).deadline (gh.known p h).0 (gh.known p h).1)) in
         let d = jobs_length i.stack i.depth (high k i gh) in
         omega (arith, a, b, c, d, li.few, li.places, k.copied.2)
 
     -- the job at the top ends: its task waits for its next release
     module _ (some : 0 < i.depth) where
       top_stands : stands_at (spot_at i (top_of i).task) (i.depth - 1) ≡ true
-      top_stands = noted k i gh (i.depth - 1) (omega arith)
+      top_stands = gh.noted (i.depth - 1) (omega arith)
 
       top_known : (top_of i).task < k.sizes.tasks
-      top_known = (known k i gh (i.depth - 1) (omega arith)).0
+      top_known = (gh.known (i.depth - 1) (omega arith)).0
 
       top_soon : (top_of i).deadline ≤ latest
-      top_soon = (known k i gh (i.depth - 1) (omega arith)).1
+      top_soon = (gh.known (i.depth - 1) (omega arith)).1
 
       abbrev again : Waiting
       again = next_wait (table_of k) (top_of i).task (top_of i).deadline
@@ -190,7 +190,7 @@ module _ (k : Records) (i : Inner) (gh : Steady k i) where
     pub push_listed : Listed k (pushed i e.task e.deadline) ws es wc rc
     push_listed =
         let jobs = ap (sum_of (λ (j : Job). next_of (table_of k) j.task j.deadline))
-        (jobs_push i.stack i.depth (record { task = e.task; deadline = e.deadline; count = 0; opened = (job_at i i.depth).opened }) (omega (arith, push_room, (tall k i gh).0))) in
+        (jobs_push i.stack i.depth (record { task = e.task; deadline = e.deadline; count = 0; opened = (job_at i i.depth).opened }) (omega (arith, push_room, gh.tall.0))) in
         let on = eq-eqb i.depth i.depth refl in
         record {
           waiting_room = li.waiting_room;

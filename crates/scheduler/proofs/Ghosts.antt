@@ -13,7 +13,7 @@ use Rattle.scheduler.specs.declared.stack.Spot.TheVariants.{Waiting, Released, S
 use Rattle.scheduler.specs.declared.question.Counts.{Counts}
 use Rattle.scheduler.specs.declared.stack.Inner.{Inner}
 use Rattle.scheduler.specs.View.{table_of, opens_of, jobs_of}
-use Rattle.scheduler.specs.Steady.{Tall, Known, Noted, Placed, Balanced, Steady, no_record, job_at, spot_at, stands_at, stood_by, latest, chained}
+use Rattle.scheduler.specs.Steady.{Placed, Balanced, Steady, no_record, job_at, spot_at, stands_at, stood_by, latest, chained}
 use Rattle.scheduler.specs.Moves.{with_counts, with_spot, with_top, top_of, pushed, popped}
 use Rattle.scheduler.proofs.Jobs.{jobs_top, jobs_push, jobs_set, opens_none, opens_length}
 
@@ -76,27 +76,12 @@ module _ (i j : Inner) where
       ]
 
 module _ (k : Records) (i : Inner) (gh : Steady k i) where
-  abbrev pub tall : Tall i
-  tall = gh.tall
-
-  abbrev pub known : Known k i
-  known = gh.known
-
-  abbrev pub noted : Noted i
-  noted = gh.noted
-
-  abbrev pub placed : Placed i
-  placed = gh.placed
-
-  abbrev pub balanced : Balanced i
-  balanced = gh.balanced
-
   -- the stack is no higher than its array, and each job's open sections fit theirs
   pub high : i.depth ≤ length i.stack
-  high = omega (arith, tall.0, tall.2)
+  high = omega (arith, gh.tall.0, gh.tall.2)
 
   pub wide : (p : ℕ) → p < i.depth → (job_at i p).count ≤ length (job_at i p).opened
-  wide p h = omega (arith, (known p h).2, tall.3 p (omega (arith, tall.2)))
+  wide p h = omega (arith, (gh.known p h).2, gh.tall.3 p (omega (arith, gh.tall.2)))
 
   -- a job more on the stack
   module _ (task deadline : ℕ) (room : i.depth < most_tasks) (in_table : task < k.sizes.tasks) (soon : deadline ≤ latest) (off : Off (spot_at i task)) where
@@ -108,7 +93,7 @@ module _ (k : Records) (i : Inner) (gh : Steady k i) where
 
     push_top : job_at (pushed i task deadline) i.depth ≡ fresh
     unfolding fresh
-    push_top = get_or-set_same i.stack i.depth _ no_record (omega (arith, tall.0))
+    push_top = get_or-set_same i.stack i.depth _ no_record (omega (arith, gh.tall.0))
 
     -- what holds of each job below and of the new one holds of each
     pushed_all : (P : ℕ → StackRecord → Type 0) → ((p : ℕ) → p < i.depth → P p (job_at i p)) → P i.depth fresh → (p : ℕ) → p < i.depth + 1 → P p (job_at (pushed i task deadline) p)
@@ -121,26 +106,26 @@ module _ (k : Records) (i : Inner) (gh : Steady k i) where
 
     push_balance : Balanced (pushed i task deadline)
     push_balance =
-        let jobs = ap open_count (jobs_push i.stack i.depth (record { task = task; deadline = deadline; count = 0; opened = (job_at i i.depth).opened }) (omega (arith, tall.0))) in
+        let jobs = ap open_count (jobs_push i.stack i.depth (record { task = task; deadline = deadline; count = 0; opened = (job_at i i.depth).opened }) (omega (arith, gh.tall.0))) in
         let none = ap length (opens_none (job_at i i.depth).opened) in
-        (omega (arith, balanced.0, jobs, none), balanced.1)
+        (omega (arith, gh.balanced.0, jobs, none), gh.balanced.1)
 
     pub push_ghosts : Steady k (pushed i task deadline)
     unfolding fresh
     push_ghosts = record {
       tall = (
-        length-set i.stack i.depth _ ∙ tall.0,
-        length-set i.spots task _ ∙ tall.1,
+        length-set i.stack i.depth _ ∙ gh.tall.0,
+        length-set i.spots task _ ∙ gh.tall.1,
         omega arith,
-        λ p h. elim (cases_eq p i.depth) [ inl e ↦ rw (e, push_top) (tall.3 i.depth room) | inr ne ↦ rw (push_at p ne) (tall.3 p h) ],
+        λ p h. elim (cases_eq p i.depth) [ inl e ↦ rw (e, push_top) (gh.tall.3 i.depth room) | inr ne ↦ rw (push_at p ne) (gh.tall.3 p h) ],
       );
-      known = pushed_all (λ p r. (r.task < k.sizes.tasks) × (r.deadline ≤ latest) × (r.count ≤ deepest)) known (in_table, soon, omega arith);
+      known = pushed_all (λ p r. (r.task < k.sizes.tasks) × (r.deadline ≤ latest) × (r.count ≤ deepest)) gh.known (in_table, soon, omega arith);
       nested = pushed_all (λ p r. chained (table_of k) (opens_of r.opened r.count) ≡ true) gh.nested (ap (chained (table_of k)) (opens_none (job_at i i.depth).opened));
       noted = pushed_all (λ p r. stands_at (spot_at (pushed i task deadline) r.task) p ≡ true)
-          (λ p h. ap (λ x. stands_at x p) (spot_other i task (job_at i p).task (Stacked i.depth) (apart i task (job_at i p).task p off (noted p h))) ∙ noted p h)
-          (rw (spot_same i task (Stacked i.depth) (omega (arith, in_table, k.copied.2, tall.1))) (grind (arith, nat_tests)));
-      placed = placed_kept i (pushed i task deadline) task (Stacked i.depth) refl tall.1 push_stood
-          (λ p h _. (omega arith, ap (λ (r : StackRecord). r.task) (push_at p (omega arith)))) placed;
+          (λ p h. ap (λ x. stands_at x p) (spot_other i task (job_at i p).task (Stacked i.depth) (apart i task (job_at i p).task p off (gh.noted p h))) ∙ gh.noted p h)
+          (rw (spot_same i task (Stacked i.depth) (omega (arith, in_table, k.copied.2, gh.tall.1))) (grind (arith, nat_tests)));
+      placed = placed_kept i (pushed i task deadline) task (Stacked i.depth) refl gh.tall.1 push_stood
+          (λ p h _. (omega arith, ap (λ (r : StackRecord). r.task) (push_at p (omega arith)))) gh.placed;
       balanced = push_balance;
     }
 
@@ -149,12 +134,12 @@ module _ (k : Records) (i : Inner) (gh : Steady k i) where
       (task : ℕ) (s : Spot) (c : Counts) → Off (spot_at i task) → stood_by i task s ≡ true → c.entries ≡ i.counts.entries → c.leaves ≡ i.counts.leaves
       → c.taken ≡ i.counts.taken → task < most_tasks → Steady k (with_spot (with_counts i c) task s)
   note_ghosts task s c off stood en le ta room = record {
-    tall = (tall.0, length-set i.spots task s ∙ tall.1, tall.2, tall.3);
-    known = known;
+    tall = (gh.tall.0, length-set i.spots task s ∙ gh.tall.1, gh.tall.2, gh.tall.3);
+    known = gh.known;
     nested = gh.nested;
-    noted = (λ p h. ap (λ x. stands_at x p) (spot_other i task (job_at i p).task s (apart i task (job_at i p).task p off (noted p h))) ∙ noted p h);
-    placed = placed_kept i (with_spot (with_counts i c) task s) task s refl tall.1 (stood_as s stood) (λ p h _. (h, refl)) placed;
-    balanced = (omega (arith, balanced.0, en, le, ta), omega (arith, balanced.1, en));
+    noted = (λ p h. ap (λ x. stands_at x p) (spot_other i task (job_at i p).task s (apart i task (job_at i p).task p off (gh.noted p h))) ∙ gh.noted p h);
+    placed = placed_kept i (with_spot (with_counts i c) task s) task s refl gh.tall.1 (stood_as s stood) (λ p h _. (h, refl)) gh.placed;
+    balanced = (omega (arith, gh.balanced.0, en, le, ta), omega (arith, gh.balanced.1, en));
   }
     where
       stood_as : (s : Spot) → stood_by i task s ≡ true → stood_by (with_spot (with_counts i c) task s) task s ≡ true
@@ -175,17 +160,17 @@ module _ (k : Records) (i : Inner) (gh : Steady k i) where
       → Steady k (popped (with_counts i c))
   pop_ghosts c some en le ta =
       let last : i.depth - 1 < i.depth = omega arith in record {
-        tall = (tall.0, length-set i.spots (top_of i).task Waiting ∙ tall.1, omega (arith, tall.2), tall.3);
-        known = (λ p h. known p (omega arith));
+        tall = (gh.tall.0, length-set i.spots (top_of i).task Waiting ∙ gh.tall.1, omega (arith, gh.tall.2), gh.tall.3);
+        known = (λ p h. gh.known p (omega arith));
         nested = (λ p h. gh.nested p (omega arith));
         noted = (λ p h.
             let lt : p < i.depth = omega arith in
             let ne : i.depth - 1 ≢ p = omega arith in
             ap (λ x. stands_at x p) (spot_other i (top_of i).task (job_at i p).task Waiting
-            (apart_places i (top_of i).task (job_at i p).task (i.depth - 1) p ne (noted (i.depth - 1) last) (noted p lt))) ∙ noted p lt);
-        placed = placed_kept i (popped (with_counts i c)) (top_of i).task Waiting refl tall.1 refl
-            (λ p h other. (grind arith, refl)) placed;
-        balanced = (omega (arith, balanced.0, top_open some), omega (arith, balanced.1));
+            (apart_places i (top_of i).task (job_at i p).task (i.depth - 1) p ne (gh.noted (i.depth - 1) last) (gh.noted p lt))) ∙ gh.noted p lt);
+        placed = placed_kept i (popped (with_counts i c)) (top_of i).task Waiting refl gh.tall.1 refl
+            (λ p h other. (grind arith, refl)) gh.placed;
+        balanced = (omega (arith, gh.balanced.0, top_open some), omega (arith, gh.balanced.1));
       }
 
   -- the top job with other open sections
@@ -208,18 +193,18 @@ module _ (k : Records) (i : Inner) (gh : Steady k i) where
     top_ghosts c own due few full nest even fine =
         let last : i.depth - 1 < i.depth = omega arith in
         let long = opens_length r.opened r.count (omega arith) in
-        let jobs = ap open_count (jobs_set i.stack i.depth r some (omega (arith, tall.0, tall.2))) in record {
+        let jobs = ap open_count (jobs_set i.stack i.depth r some (omega (arith, gh.tall.0, gh.tall.2))) in record {
           tall = (
-            length-set i.stack (i.depth - 1) r ∙ tall.0,
-            tall.1,
-            tall.2,
-            λ p h. elim (cases_eq p (i.depth - 1)) [ inl e ↦ rw (e, top_here) full | inr ne ↦ rw (top_at p ne) (tall.3 p h) ],
+            length-set i.stack (i.depth - 1) r ∙ gh.tall.0,
+            gh.tall.1,
+            gh.tall.2,
+            λ p h. elim (cases_eq p (i.depth - 1)) [ inl e ↦ rw (e, top_here) full | inr ne ↦ rw (top_at p ne) (gh.tall.3 p h) ],
           );
-          known = top_all (λ p q. (q.task < k.sizes.tasks) × (q.deadline ≤ latest) × (q.count ≤ deepest)) known
-              (omega (arith, own, (known (i.depth - 1) last).0), omega (arith, due, (known (i.depth - 1) last).1), few);
+          known = top_all (λ p q. (q.task < k.sizes.tasks) × (q.deadline ≤ latest) × (q.count ≤ deepest)) gh.known
+              (omega (arith, own, (gh.known (i.depth - 1) last).0), omega (arith, due, (gh.known (i.depth - 1) last).1), few);
           nested = top_all (λ p q. chained (table_of k) (opens_of q.opened q.count) ≡ true) gh.nested nest;
-          noted = top_all (λ p q. stands_at (spot_at i q.task) p ≡ true) noted (ap (λ n. stands_at (spot_at i n) (i.depth - 1)) own ∙ noted (i.depth - 1) last);
+          noted = top_all (λ p q. stands_at (spot_at i q.task) p ≡ true) gh.noted (ap (λ n. stands_at (spot_at i n) (i.depth - 1)) own ∙ gh.noted (i.depth - 1) last);
           placed = (λ t h. stood_kept i (with_counts (with_top i r) c) t (spot_at i t)
-              (λ p lt own_task. (lt, top_all (λ n q. q.task ≡ (job_at i n).task) (λ _ _. refl) own p lt ∙ own_task)) (placed t h));
-          balanced = (omega (arith, balanced.0, top_open some, jobs, long), fine);
+              (λ p lt own_task. (lt, top_all (λ n q. q.task ≡ (job_at i n).task) (λ _ _. refl) own p lt ∙ own_task)) (gh.placed t h));
+          balanced = (omega (arith, gh.balanced.0, top_open some, jobs, long), fine);
         }

@@ -21,7 +21,7 @@ use Rattle.scheduler.specs.Steady.{no_record, job_at, spot_at, stands_at, Steady
 use Rattle.scheduler.specs.Moves.{top_of, no_open, with_closed, innermost_for, open_for, opened_for}
 use Rattle.scheduler.specs.Moves.{left_by}
 use Rattle.scheduler.proofs.Jobs.{jobs_none, jobs_top, jobs_more, jobs_set, opens_none, opens_top}
-use Rattle.scheduler.proofs.Ghosts.{high, wide, known, noted, placed}
+use Rattle.scheduler.proofs.Ghosts.{high, wide}
 
 -- something that holds of a stack if it does of one of its jobs
 module _ (test : Job → Bool) (rs : List StackRecord) where
@@ -59,18 +59,18 @@ module _ (k : Records) (i : Inner) (gh : Steady k i) (task : ℕ) where
   -- a task that is not on the stack has no job there
   off_job : (s : Spot) → s ≡ spot_at i task → ((p : ℕ) → stands_at s p ≡ false) → (p : ℕ) → p < i.depth → ((job_at i p).task == task) ≡ false
   off_job s is off p h =
-      let note = noted k i gh p h in
+      let note = gh.noted p h in
       let none = off p in
       grind (arith, nat_tests)
 
   -- and one that is has just one
   module _ (small : task < most_tasks) (at : ℕ) (is : spot_at i task ≡ Stacked at) where
     pub stood_here : (at < i.depth) × (((job_at i at).task == task) ≡ true)
-    stood_here = let stood = rw is at (placed k i gh task small) in grind (arith, nat_tests)
+    stood_here = let stood = rw is at (gh.placed task small) in grind (arith, nat_tests)
 
     pub other_job : (p : ℕ) → p < i.depth → p ≢ at → ((job_at i p).task == task) ≡ false
     other_job p h ne =
-        let note = noted k i gh p h in
+        let note = gh.noted p h in
         let off : stands_at (Stacked at) p ≡ false = grind (arith, nat_tests) in
         grind (arith, nat_tests)
 
@@ -95,7 +95,7 @@ module _ (k : Records) (i : Inner) (gh : Steady k i) (g : Ticket) where
       elim (cases_lt g.task most_tasks) [
         | inl small ↦ (let here = open_by small (spot_at i g.task) refl in grind (arith, nat_tests))
         | inr far ↦
-            (let none = no_jobs holds i.stack i.depth (high k i gh) (λ p h. not_held p (grind (arith, nat_tests, (known k i gh p h).0, k.copied.2))) in
+            (let none = no_jobs holds i.stack i.depth (high k i gh) (λ p h. not_held p (grind (arith, nat_tests, (gh.known p h).0, k.copied.2))) in
             grind (arith, nat_tests))
       ]
 
