@@ -68,13 +68,13 @@ chain_short : (k : Records) (os : List Open) → chained (table_of k) os ≡ tru
 chain_short k os c =
     omega (arith, length-map os (λ (o : Open). o.section), nesting_within (table_of k).tasks (table_of k).sections k.copied.4 (numbers os) (chain_inside (table_of k) os c))
 
-module _ (k : Records) (i : Inner) (gh : Steady k i) where
+module _ {k : Records} {i : Inner} (gh : Steady k i) where
   -- the innermost open section
   innermost_over : (p : ℕ) → p < i.depth → innermost_of (job_at i p) ≡ innermost (job_of (job_at i p)).opened
   innermost_over p h =
       let r = job_at i p in
       let none = opens_none r.opened in
-      let top = λ (some : 0 < r.count). opens_top r.opened r.count no_open some (wide k i gh p h) in
+      let top = λ (some : 0 < r.count). opens_top r.opened r.count no_open some (wide gh p h) in
       grind (arith, nat_tests)
 
   -- whether a section is open to entry
@@ -103,7 +103,7 @@ module _ (k : Records) (i : Inner) (gh : Steady k i) where
         some = some;
         counted = grind (arith, nat_tests);
         nested = nested;
-        room = omega (arith, chain_short k (record { section = x; serial = i.counts.entries } ∷ (job_of (top_of i)).opened) nested, top_count k i gh some);
+        room = omega (arith, chain_short k (record { section = x; serial = i.counts.entries } ∷ (job_of (top_of i)).opened) nested, top_count gh some);
       }
 
   module _ (ws : List Waiting) (rs : List Released) where
@@ -111,9 +111,9 @@ module _ (k : Records) (i : Inner) (gh : Steady k i) where
     unfolding step
     enter_is {o} x why =
         let empty = jobs_none i.stack in
-        let top = λ (some : 0 < i.depth). jobs_top i.stack i.depth some (high k i gh) in
+        let top = λ (some : 0 < i.depth). jobs_top i.stack i.depth some (high gh) in
         let may = λ (some : 0 < i.depth). enterable_over x (i.depth - 1) (omega arith) in
-        let new = λ (some : 0 < i.depth). jobs_set i.stack i.depth (with_open x i.counts.entries (top_of i)) some (high k i gh) in
+        let new = λ (some : 0 < i.depth). jobs_set i.stack i.depth (with_open x i.counts.entries (top_of i)) some (high gh) in
         let fits = λ (e : enter_refusal k i x ≡ None). opens_push (top_of i).opened (top_of i).count (record { section = x; serial = i.counts.entries })
         (let a = enter_some x e in omega (arith, a.room, gh.tall.3 (i.depth - 1) (omega (arith, gh.tall.2, a.some)))) in
         grind (arith, nat_tests)
@@ -123,9 +123,9 @@ module _ (k : Records) (i : Inner) (gh : Steady k i) where
     finish_is {o} why =
         let r = top_of i in
         let empty = jobs_none i.stack in
-        let top = λ (some : 0 < i.depth). jobs_top i.stack i.depth some (high k i gh) in
+        let top = λ (some : 0 < i.depth). jobs_top i.stack i.depth some (high gh) in
         let none = opens_none r.opened in
-        let more = λ (some : 0 < i.depth) (more : 0 < r.count). opens_top r.opened r.count no_open more (wide k i gh (i.depth - 1) (omega arith)) in
+        let more = λ (some : 0 < i.depth) (more : 0 < r.count). opens_top r.opened r.count no_open more (wide gh (i.depth - 1) (omega arith)) in
         grind (arith, nat_tests)
 
 pub finish_some : (i : Inner) → finish_refusal i ≡ None → (0 < i.depth) × ((top_of i).count ≡ 0)

@@ -18,20 +18,20 @@ use Rattle.scheduler.proofs.Jobs.{jobs_none, jobs_top, opens_length}
 use Rattle.scheduler.proofs.Ghosts.{high, wide}
 use Rattle.scheduler.proofs.Fits.{next_wait, releases_few}
 
-module _ (k : Records) (i : Inner) (gh : Steady k i) where
+module _ {k : Records} {i : Inner} (gh : Steady k i) where
   pub top_count : 0 < i.depth → length (job_of (top_of i)).opened ≡ (top_of i).count
-  top_count some = opens_length (top_of i).opened (top_of i).count (wide k i gh (i.depth - 1) (omega arith))
+  top_count some = opens_length (top_of i).opened (top_of i).count (wide gh (i.depth - 1) (omega arith))
 
   -- no count of jobs comes near the end of its type
-  module _ (ws : List Waiting) (rs : List Released) (wc rc : ℕ) (li : Listed k i ws rs wc rc) where
+  module _ {ws : List Waiting} {rs : List Released} {wc rc : ℕ} (li : Listed k i ws rs wc rc) where
     pub releases_most : i.counts.releases < most
-    releases_most = omega (arith, releases_few k i gh ws rs wc rc li)
+    releases_most = omega (arith, releases_few gh li)
 
     pub expiries_most : i.counts.expiries < most
-    expiries_most = omega (arith, releases_few k i gh ws rs wc rc li, li.jobs)
+    expiries_most = omega (arith, releases_few gh li, li.jobs)
 
     pub finishes_most : i.counts.finishes < most
-    finishes_most = omega (arith, releases_few k i gh ws rs wc rc li, li.jobs)
+    finishes_most = omega (arith, releases_few gh li, li.jobs)
 
   -- the running job ends at its deadline
   module _ (t : ℕ) (ws : List Waiting) (rs : List Released) where
@@ -42,13 +42,13 @@ module _ (k : Records) (i : Inner) (gh : Steady k i) where
         → state_of (expired_by i) (insert_sorted waiting_before (again_of (table_of k) i) ws) rs ≡ top_expired (table_of k) t (state_of i ws rs) (jobs_of i.stack i.depth)
     expire_yes d =
         let count = top_count (due_some d) in
-        let top = jobs_top i.stack i.depth (due_some d) (high k i gh) in
+        let top = jobs_top i.stack i.depth (due_some d) (high gh) in
         grind (arith, nat_tests)
 
     pub expire_no : is_due i t ≡ false → state_of i ws rs ≡ top_expired (table_of k) t (state_of i ws rs) (jobs_of i.stack i.depth)
     expire_no d =
         let none = jobs_none i.stack in
-        let top = λ (some : 0 < i.depth). jobs_top i.stack i.depth some (high k i gh) in
+        let top = λ (some : 0 < i.depth). jobs_top i.stack i.depth some (high gh) in
         grind (arith, nat_tests)
 
 -- the first released job ends at its deadline

@@ -61,7 +61,7 @@ module _ (k : Records) (i : Inner) where
   keep_released task s rs apart all =
       all_map2 (λ e. e.task ≢ task) (ReleasedIn k i) (ReleasedIn k (with_spot i task s)) (λ e ne h. (h.0, spot_other i task e.task s ne ∙ h.1, h.2)) rs apart all
 
-module _ (k : Records) (i : Inner) (gh : Steady k i) where
+module _ {k : Records} {i : Inner} (gh : Steady k i) where
   -- the next release of a task is not too far off
   pub next_near : (task deadline : ℕ) → task < k.sizes.tasks → deadline ≤ latest → next_of (table_of k) task deadline ≤ latest + largest
   next_near task deadline h soon = omega (arith, (timed_at k task h).near)
@@ -100,16 +100,16 @@ module _ (k : Records) (i : Inner) (gh : Steady k i) where
     stay_all : (task : ℕ) (s : Spot) (xs : List E) → (s ≡ v → ⊥) → Covers i xs → Covers (with_spot i task s) xs
     stay_all task s xs not = keep_all task s xs xs (λ e. absurd (not e)) (λ t _ q. q)
 
-  module _ (ws : List Waiting) (rs : List Released) (wc rc : ℕ) (li : Listed k i ws rs wc rc) where
+  module _ {ws : List Waiting} {rs : List Released} {wc rc : ℕ} (li : Listed k i ws rs wc rc) where
     pub releases_few : i.counts.releases ≤ 32 * (latest + largest)
     releases_few =
         let a = sum-most (λ (w : Waiting). w.release) (latest + largest) ws (All-weaker (WaitsIn k i) (λ w. w.release ≤ latest + largest) (λ w h. h.2) ws li.waiting) in
         let b = sum-most (λ (e : Released). next_of (table_of k) e.task e.deadline) (latest + largest) rs
         (All-weaker (ReleasedIn k i) (λ e. next_of (table_of k) e.task e.deadline ≤ latest + largest) (λ e h. next_near e.task e.deadline h.0 h.2) rs li.released) in
         let c = sum-most (λ (j : Job). next_of (table_of k) j.task j.deadline) (latest + largest) (jobs_of i.stack i.depth)
-        (jobs_each (λ j. next_of (table_of k) j.task j.deadline ≤ latest + largest) i.stack i.depth (high k i gh)
+        (jobs_each (λ j. next_of (table_of k) j.task j.deadline ≤ latest + largest) i.stack i.depth (high gh)
         (λ p h. next_near (job_at i p).task (job_at i p).deadline (gh.known p h).0 (gh.known p h).1)) in
-        let d = jobs_length i.stack i.depth (high k i gh) in
+        let d = jobs_length i.stack i.depth (high gh) in
         omega (arith, a, b, c, d, li.few, li.places, k.copied.2)
 
     -- the job at the top ends: its task waits for its next release
@@ -137,7 +137,7 @@ module _ (k : Records) (i : Inner) (gh : Steady k i) where
           → Listed k (popped (with_counts i c)) (insert_sorted waiting_before again ws) rs wc rc
       end_listed c re fe =
           let sum = sum-insert (λ (w : Waiting). w.release) waiting_before again ws in
-          let jobs = ap (sum_of (λ (j : Job). next_of (table_of k) j.task j.deadline)) (jobs_top i.stack i.depth some (high k i gh)) in
+          let jobs = ap (sum_of (λ (j : Job). next_of (table_of k) j.task j.deadline)) (jobs_top i.stack i.depth some (high gh)) in
           record {
             waiting_room = li.waiting_room;
             released_room = li.released_room;
@@ -159,8 +159,8 @@ module _ (k : Records) (i : Inner) (gh : Steady k i) where
         → c.finishes ≡ i.counts.finishes → c.expiries ≡ i.counts.expiries → Listed k (with_counts (with_top i r) c) ws rs wc rc
     top_listed r c some own due re fi ex =
         let f : Job → ℕ = λ j. next_of (table_of k) j.task j.deadline in
-        let old = ap (sum_of f) (jobs_top i.stack i.depth some (high k i gh)) in
-        let new = ap (sum_of f) (jobs_set i.stack i.depth r some (high k i gh)) in
+        let old = ap (sum_of f) (jobs_top i.stack i.depth some (high gh)) in
+        let new = ap (sum_of f) (jobs_set i.stack i.depth r some (high gh)) in
         let next : next_of (table_of k) r.task r.deadline ≡ next_of (table_of k) (top_of i).task (top_of i).deadline =
         ap (λ t. next_of (table_of k) t r.deadline) own ∙ ap (next_of (table_of k) (top_of i).task) due in
         record {
@@ -176,7 +176,7 @@ module _ (k : Records) (i : Inner) (gh : Steady k i) where
         }
 
   -- the first released job
-  module _ (ws : List Waiting) (e : Released) (es : List Released) (wc rc : ℕ) (li : Listed k i ws (e ∷ es) wc rc) (single : queued (λ (x : Released). x.task) e.task es ≡ false) where
+  module _ {ws : List Waiting} {e : Released} {es : List Released} {wc rc : ℕ} (li : Listed k i ws (e ∷ es) wc rc) (single : queued (λ (x : Released). x.task) e.task es ≡ false) where
     rest_apart : AllByRecursion (λ x. x.task ≢ e.task) es
     rest_apart = not_of (λ x. x.task) e.task es single
 
@@ -232,7 +232,7 @@ module _ (k : Records) (i : Inner) (gh : Steady k i) where
         }
 
   -- the first waiting task is released
-  module _ (w : Waiting) (ws : List Waiting) (rs : List Released) (wc rc : ℕ) (li : Listed k i (w ∷ ws) rs wc rc) (single : queued (λ (x : Waiting). x.task) w.task ws ≡ false) (now : w.release ≤ last_instant) where
+  module _ {w : Waiting} {ws : List Waiting} {rs : List Released} {wc rc : ℕ} (li : Listed k i (w ∷ ws) rs wc rc) (single : queued (λ (x : Waiting). x.task) w.task ws ≡ false) (now : w.release ≤ last_instant) where
     abbrev out : Released
     out = release_of (table_of k) w
 

@@ -75,7 +75,7 @@ module _ (i j : Inner) where
             grind arith)
       ]
 
-module _ (k : Records) (i : Inner) (gh : Steady k i) where
+module _ {k : Records} {i : Inner} (gh : Steady k i) where
   -- the stack is no higher than its array, and each job's open sections fit theirs
   pub high : i.depth ≤ length i.stack
   high = omega (arith, gh.tall.0, gh.tall.2)

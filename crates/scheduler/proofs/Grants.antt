@@ -55,7 +55,7 @@ module _ (test : Job → Bool) (rs : List StackRecord) where
             grind arith)
       ]
 
-module _ (k : Records) (i : Inner) (gh : Steady k i) (task : ℕ) where
+module _ {k : Records} {i : Inner} (gh : Steady k i) (task : ℕ) where
   -- a task that is not on the stack has no job there
   off_job : (s : Spot) → s ≡ spot_at i task → ((p : ℕ) → stands_at s p ≡ false) → (p : ℕ) → p < i.depth → ((job_at i p).task == task) ≡ false
   off_job s is off p h =
@@ -75,7 +75,7 @@ module _ (k : Records) (i : Inner) (gh : Steady k i) (task : ℕ) where
         grind (arith, nat_tests)
 
 -- a grant is open where the note of its task says
-module _ (k : Records) (i : Inner) (gh : Steady k i) (g : Ticket) where
+module _ {k : Records} {i : Inner} (gh : Steady k i) (g : Ticket) where
   abbrev holds : Job → Bool
   holds j = j.task == g.task && among_open g j.opened
 
@@ -83,11 +83,11 @@ module _ (k : Records) (i : Inner) (gh : Steady k i) (g : Ticket) where
   not_held p e = grind arith
 
   open_by : g.task < most_tasks → (s : Spot) → s ≡ spot_at i g.task → open_for g i s ≡ grant_open g (jobs_of i.stack i.depth)
-  open_by small Waiting is = sym (no_jobs holds i.stack i.depth (high k i gh) (λ p h. not_held p (off_job k i gh g.task Waiting is (λ q. refl) p h)))
-  open_by small Released is = sym (no_jobs holds i.stack i.depth (high k i gh) (λ p h. not_held p (off_job k i gh g.task Released is (λ q. refl) p h)))
+  open_by small Waiting is = sym (no_jobs holds i.stack i.depth (high gh) (λ p h. not_held p (off_job gh g.task Waiting is (λ q. refl) p h)))
+  open_by small Released is = sym (no_jobs holds i.stack i.depth (high gh) (λ p h. not_held p (off_job gh g.task Released is (λ q. refl) p h)))
   open_by small (Stacked at) is =
-      let here = stood_here k i gh g.task small at (sym is) in
-      let one = one_job holds i.stack i.depth at (high k i gh) here.0 (λ q h ne. not_held q (other_job k i gh g.task small at (sym is) q h ne)) in
+      let here = stood_here gh g.task small at (sym is) in
+      let one = one_job holds i.stack i.depth at (high gh) here.0 (λ q h ne. not_held q (other_job gh g.task small at (sym is) q h ne)) in
       grind arith
 
   pub opened_over : opened_for g i ≡ grant_open g (jobs_of i.stack i.depth)
@@ -95,7 +95,7 @@ module _ (k : Records) (i : Inner) (gh : Steady k i) (g : Ticket) where
       elim (cases_lt g.task most_tasks) [
         | inl small ↦ (let here = open_by small (spot_at i g.task) refl in grind (arith, nat_tests))
         | inr far ↦
-            (let none = no_jobs holds i.stack i.depth (high k i gh) (λ p h. not_held p (grind (arith, nat_tests, (gh.known p h).0, k.copied.2))) in
+            (let none = no_jobs holds i.stack i.depth (high gh) (λ p h. not_held p (grind (arith, nat_tests, (gh.known p h).0, k.copied.2))) in
             grind (arith, nat_tests))
       ]
 
@@ -112,9 +112,9 @@ module _ (k : Records) (i : Inner) (gh : Steady k i) (g : Ticket) where
     leave_is {a} {b} top_is open_is =
         let r = top_of i in
         let empty = jobs_none i.stack in
-        let top = λ (some : 0 < i.depth). jobs_top i.stack i.depth some (high k i gh) in
+        let top = λ (some : 0 < i.depth). jobs_top i.stack i.depth some (high gh) in
         let none = opens_none r.opened in
-        let more = λ (some : 0 < i.depth) (more : 0 < r.count). opens_top r.opened r.count no_open more (wide k i gh (i.depth - 1) (omega arith)) in
-        let freed = λ (some : 0 < i.depth). jobs_set i.stack i.depth (with_closed r) some (high k i gh) in
+        let more = λ (some : 0 < i.depth) (more : 0 < r.count). opens_top r.opened r.count no_open more (wide gh (i.depth - 1) (omega arith)) in
+        let freed = λ (some : 0 < i.depth). jobs_set i.stack i.depth (with_closed r) some (high gh) in
         let over = opened_over in
         grind (arith, nat_tests)

@@ -22,7 +22,7 @@ use Rattle.scheduler.proofs.Queues.{none_of}
 use Rattle.scheduler.proofs.Fits.{released_waits, others_waiting, others_released}
 use Rattle.scheduler.proofs.Grants.{no_jobs, one_job, other_job, stood_here}
 
-module _ (k : Records) (i : Inner) (gh : Steady k i) (ws : List WaitingEntry) (rs : List ReleasedEntry) (wc rc : ℕ) (li : Listed k i ws rs wc rc) (task : ℕ) where
+module _ {k : Records} {i : Inner} (gh : Steady k i) {ws : List WaitingEntry} {rs : List ReleasedEntry} {wc rc : ℕ} (li : Listed k i ws rs wc rc) (task : ℕ) where
   abbrev waits : Bool
   waits = queued (λ (w : WaitingEntry). w.task) task ws
 
@@ -51,8 +51,8 @@ module _ (k : Records) (i : Inner) (gh : Steady k i) (ws : List WaitingEntry) (r
       grind arith
   place_by lt (Stacked at) is =
       let small : task < most_tasks = omega (arith, lt, k.copied.2) in
-      let stood = stood_here k i gh task small at (sym is) in
-      let here = one_job (λ j. j.task == task) i.stack i.depth at (high k i gh) stood.0 (λ q h ne. other_job k i gh task small at (sym is) q h ne) in
+      let stood = stood_here gh task small at (sym is) in
+      let here = one_job (λ j. j.task == task) i.stack i.depth at (high gh) stood.0 (λ q h ne. other_job gh task small at (sym is) q h ne) in
       let not-in = not_waiting (λ e. grind arith) in
       let not-out = not_released (λ e. grind arith) in
       grind arith
@@ -62,5 +62,5 @@ module _ (k : Records) (i : Inner) (gh : Steady k i) (ws : List WaitingEntry) (r
   place_none far =
       let a : waits ≡ false = none_of (λ w. w.task) task ws (All-weaker (WaitsIn k i) (λ w. w.task ≢ task) (λ w h e. omega (arith, h.0)) ws li.waiting) in
       let b : is_out ≡ false = none_of (λ e. e.task) task rs (All-weaker (ReleasedIn k i) (λ e. e.task ≢ task) (λ e h q. omega (arith, h.0)) rs li.released) in
-      let c : stands ≡ false = no_jobs (λ j. j.task == task) i.stack i.depth (high k i gh) (λ p h. grind (arith, nat_tests, (gh.known p h).0)) in
+      let c : stands ≡ false = no_jobs (λ j. j.task == task) i.stack i.depth (high gh) (λ p h. grind (arith, nat_tests, (gh.known p h).0)) in
       grind arith

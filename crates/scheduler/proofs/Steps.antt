@@ -41,33 +41,33 @@ module _ {Q E : Type 0} (q : Meaning Q E) (o : Order E) (old new : Q) where
     after : q.list new ≡ rest_of (q.list old);
   }
 
-module _ {W R : Type 0} (w : Meaning W Waiting) (r : Meaning R Released) (k : Records) where
-  -- an engine's parts fit, and its state is s
-  pub record Left (i : Inner) (ws : W) (rs : R) (s : State) : Type 0 where
-    pub fits : Fitted w r k i ws rs
-    pub state : state_of i (w.list ws) (r.list rs) ≡ s
+-- an engine's parts fit, and its state is s
+pub record Left {W R : Type 0} (w : Meaning W Waiting) (r : Meaning R Released) (k : Records) (i : Inner) (ws : W) (rs : R) (s : State) : Type 0 where
+  pub fits : Fitted w r k i ws rs
+  pub state : state_of i (w.list ws) (r.list rs) ≡ s
 
+module _ {W R : Type 0} {w : Meaning W Waiting} {r : Meaning R Released} {k : Records} where
   pub left :
       {i i' : Inner} {ws : W} {rs : R} {xs : List Waiting} {ys : List Released} {wc rc : ℕ}
       → i' ≡ i → w.list ws ≡ xs → r.list rs ≡ ys → w.capacity ws ≡ wc → r.capacity rs ≡ rc → w.ordered waiting_order ws → r.ordered released_order rs
-      → Steady k i → Listed k i xs ys wc rc → Left i' ws rs (state_of i xs ys)
+      → Steady k i → Listed k i xs ys wc rc → Left w r k i' ws rs (state_of i xs ys)
   left a b c d e waiting released steady lists = record {
     fits = record { steady = rw a steady; waiting = waiting; released = released; lists = rw (a, b, c, d, e) lists };
     state = cc;
   }
 
-  module _ (i : Inner) (ws : W) (rs : R) (fit : Fitted w r k i ws rs) where
+  module _ {i : Inner} {ws : W} {rs : R} (fit : Fitted w r k i ws rs) where
     -- the running job ends, and its task waits
     pub ended :
         {i' : Inner} {ws' : W} {e : Waiting} {result : Result (Unit {0}) Refusal} (c : Counts) → 0 < i.depth → c.releases ≡ i.counts.releases
         → c.finishes + c.expiries ≡ i.counts.finishes + i.counts.expiries + 1 → c.entries ≡ i.counts.entries → c.leaves ≡ i.counts.leaves
         → c.taken ≡ i.counts.taken + (top_of i).count → i' ≡ popped (with_counts i c) → e ≡ again_of (table_of k) i → Put w waiting_order ws ws' e result
-        → Left i' ws' rs (state_of (popped (with_counts i c)) (insert_sorted waiting_before (again_of (table_of k) i) (w.list ws)) (r.list rs))
+        → Left w r k i' ws' rs (state_of (popped (with_counts i c)) (insert_sorted waiting_before (again_of (table_of k) i) (w.list ws)) (r.list rs))
     ended c some re fe en le ta moved is put =
         let room = w.capacity ws in
         let xs = w.list ws in
-        left moved (put.after ∙ ap (λ x. inserted waiting_order room x xs) is ∙ end_put k i fit.steady xs (r.list rs) room (r.capacity rs) fit.lists some) refl put.capacity refl
-        put.ordered fit.released (pop_ghosts k i fit.steady c some en le ta) (end_listed k i fit.steady xs (r.list rs) room (r.capacity rs) fit.lists some c re fe)
+        left moved (put.after ∙ ap (λ x. inserted waiting_order room x xs) is ∙ end_put fit.steady fit.lists some) refl put.capacity refl
+        put.ordered fit.released (pop_ghosts fit.steady c some en le ta) (end_listed fit.steady fit.lists some c re fe)
 
     -- the first released job
     module _ (e : Released) (first : Some e ≡ first_of (r.list rs)) where
@@ -78,30 +78,30 @@ module _ {W R : Type 0} (w : Meaning W Waiting) (r : Meaning R Released) (k : Re
       job_single = first_single released_order (r.capacity rs) (r.list rs) e first (r.sound released_order rs fit.released)
 
       pub job_room : i.depth < most_tasks
-      job_room = push_room k i fit.steady (w.list ws) e (rest_of (r.list rs)) (w.capacity ws) (r.capacity rs) job_listed job_single
+      job_room = push_room fit.steady job_listed job_single
 
       module _ {i' : Inner} {rs' : R} {out : Option Released} (took : Took r released_order rs rs' out) where
         -- is pushed
-        pub picked_up : i' ≡ pushed i e.task e.deadline → Left i' ws rs' (state_of (pushed i e.task e.deadline) (w.list ws) (rest_of (r.list rs)))
+        pub picked_up : i' ≡ pushed i e.task e.deadline → Left w r k i' ws rs' (state_of (pushed i e.task e.deadline) (w.list ws) (rest_of (r.list rs)))
         picked_up moved =
             let job = job_listed.released.0 in
-            left moved refl took.after refl took.capacity fit.waiting took.ordered (push_ghosts k i fit.steady e.task e.deadline job_room job.0 job.2 (off_released _ job.1))
-            (push_listed k i fit.steady (w.list ws) e (rest_of (r.list rs)) (w.capacity ws) (r.capacity rs) job_listed job_single)
+            left moved refl took.after refl took.capacity fit.waiting took.ordered (push_ghosts fit.steady e.task e.deadline job_room job.0 job.2 (off_released _ job.1))
+            (push_listed fit.steady job_listed job_single)
 
         -- or lapses
         pub gone_by :
             {ws' : W} {a : Waiting} {result : Result (Unit {0}) Refusal} → i' ≡ lapsed_by i e.task → a ≡ next_wait (table_of k) e.task e.deadline
             → Put w waiting_order ws ws' a result
-            → Left i' ws' rs' (state_of (lapsed_by i e.task) (insert_sorted waiting_before (next_wait (table_of k) e.task e.deadline) (w.list ws)) (rest_of (r.list rs)))
+            → Left w r k i' ws' rs' (state_of (lapsed_by i e.task) (insert_sorted waiting_before (next_wait (table_of k) e.task e.deadline) (w.list ws)) (rest_of (r.list rs)))
         gone_by moved is put =
             let room = w.capacity ws in
             let xs = w.list ws in
             let job = job_listed.released.0 in
             left moved
-            (put.after ∙ ap (λ x. inserted waiting_order room x xs) is ∙ lapse_put k i fit.steady xs e (rest_of (r.list rs)) room (r.capacity rs) job_listed job_single)
+            (put.after ∙ ap (λ x. inserted waiting_order room x xs) is ∙ lapse_put fit.steady job_listed job_single)
             took.after put.capacity took.capacity put.ordered took.ordered
-            (note_ghosts k i fit.steady e.task Waits (lapsed_by i e.task).counts (off_released _ job.1) refl refl refl refl (omega (arith, job.0, k.copied.2)))
-            (lapse_listed k i fit.steady xs e (rest_of (r.list rs)) room (r.capacity rs) job_listed job_single (lapsed_by i e.task).counts refl refl refl)
+            (note_ghosts fit.steady e.task Waits (lapsed_by i e.task).counts (off_released _ job.1) refl refl refl refl (omega (arith, job.0, k.copied.2)))
+            (lapse_listed fit.steady job_listed job_single (lapsed_by i e.task).counts refl refl refl)
 
     -- the first waiting task is released
     module _ (a : Waiting) (first : Some a ≡ first_of (w.list ws)) where
@@ -114,13 +114,13 @@ module _ {W R : Type 0} (w : Meaning W Waiting) (r : Meaning R Released) (k : Re
       pub let_out :
           {i' : Inner} {ws' : W} {rs' : R} {e : Released} {out : Option Waiting} {result : Result (Unit {0}) Refusal} → a.release ≤ last_instant
           → i' ≡ released_by i a.task → Took w waiting_order ws ws' out → e ≡ release_of (table_of k) a → Put r released_order rs rs' e result
-          → Left i' ws' rs' (state_of (released_by i a.task) (rest_of (w.list ws)) (insert_sorted released_before (release_of (table_of k) a) (r.list rs)))
+          → Left w r k i' ws' rs' (state_of (released_by i a.task) (rest_of (w.list ws)) (insert_sorted released_before (release_of (table_of k) a) (r.list rs)))
       let_out soon moved took is put =
           let room = r.capacity rs in
           let ys = r.list rs in
           let task = task_listed.waiting.0 in
           left moved took.after
-          (put.after ∙ ap (λ x. inserted released_order room x ys) is ∙ release_put k i fit.steady a (rest_of (w.list ws)) ys (w.capacity ws) room task_listed task_single soon)
+          (put.after ∙ ap (λ x. inserted released_order room x ys) is ∙ release_put fit.steady task_listed task_single soon)
           took.capacity put.capacity took.ordered put.ordered
-          (note_ghosts k i fit.steady a.task IsReleased (released_by i a.task).counts (off_waiting _ task.1) refl refl refl refl (omega (arith, task.0, k.copied.2)))
-          (release_listed k i fit.steady a (rest_of (w.list ws)) ys (w.capacity ws) room task_listed task_single soon (released_by i a.task).counts refl refl refl)
+          (note_ghosts fit.steady a.task IsReleased (released_by i a.task).counts (off_waiting _ task.1) refl refl refl refl (omega (arith, task.0, k.copied.2)))
+          (release_listed fit.steady task_listed task_single soon (released_by i a.task).counts refl refl refl)

@@ -18,7 +18,7 @@ use Rattle.scheduler.proofs.engine.Engine.enter.Goals as goal
 refused_is : (g : Over) (c : goal.After-from_residual g)
     → let p = c.self.inside in let s = state_of p.inner (g.W.Queue.list p.waiting) (g.R.Queue.list p.released) in
     step (table_of p.records) (Enter c.args.section) s ≡ refused s c.in_err-task.field-0.0
-refused_is g c = let p = c.self.inside in enter_is p.records p.inner c.self.invariant.steady _ _ c.args.section (rw (← c.self.view_is) at c.in_err-task.ensures)
+refused_is g c = let p = c.self.inside in enter_is c.self.invariant.steady _ _ c.args.section (rw (← c.self.view_is) at c.in_err-task.ensures)
 
 pub returns-in_err-task-clause-value : goal.returns-in_err-task-clause-value
 returns-in_err-task-clause-value g c =
@@ -31,7 +31,7 @@ returns-in_err-task-clause-after g c = rw (← c.self.view_is) (ap (λ (o : Outc
 pub enter-serial-requires-clause-top : goal.enter-serial-requires-clause-top
 enter-serial-requires-clause-top g c =
     let p = c.self.inside in
-    let open-to = enter_some p.records p.inner c.self.invariant.steady c.args.section (rw (← c.self.view_is) at c.in_ok-task.ensures.0) in
+    let open-to = enter_some c.self.invariant.steady c.args.section (rw (← c.self.view_is) at c.in_ok-task.ensures.0) in
     (open-to.some, open-to.room)
 
 pub invariant_of-self : goal.invariant_of-self
@@ -41,25 +41,25 @@ invariant_of-self g c =
     let i = p.inner in
     let x = c.args.section in
     let steady = c.self.invariant.steady in
-    let open-to = enter_some k i steady x (rw (← c.self.view_is) at c.in_ok-task.ensures.0) in
+    let open-to = enter_some steady x (rw (← c.self.view_is) at c.in_ok-task.ensures.0) in
     let wide = steady.tall.3 (i.depth - 1) (omega (arith, steady.tall.2, open-to.some)) in
     record {
       steady = subst (Steady k) (sym c.enter-serial.ensures.after)
-          (top_ghosts k i steady (with_open x i.counts.entries (top_of i)) open-to.some (entered_by i x).counts refl refl (omega (arith, open-to.room))
+          (top_ghosts steady (with_open x i.counts.entries (top_of i)) open-to.some (entered_by i x).counts refl refl (omega (arith, open-to.room))
           (length-set (top_of i).opened (top_of i).count _ ∙ wide)
           (ap (chained (table_of k)) (opens_push (top_of i).opened (top_of i).count (record { section = x; serial = i.counts.entries }) (omega (arith, open-to.room, wide))) ∙ open-to.nested)
           (omega arith) (omega (arith, open-to.counted)));
       waiting = c.self.invariant.waiting;
       released = c.self.invariant.released;
       lists = listed_as c.enter-serial.ensures.after refl refl refl refl
-          (top_listed k i steady _ _ _ _ c.self.invariant.lists (with_open x i.counts.entries (top_of i)) (entered_by i x).counts open-to.some refl refl refl refl refl);
+          (top_listed steady c.self.invariant.lists (with_open x i.counts.entries (top_of i)) (entered_by i x).counts open-to.some refl refl refl refl refl);
     }
 
 -- an entry that is not refused is the machine's
 granted_is : (g : Over) (c : goal.After-enter-serial g)
     → let p = c.self.inside in let ws = g.W.Queue.list p.waiting in let rs = g.R.Queue.list p.released in
     step (table_of p.records) (Enter c.args.section) (state_of p.inner ws rs) ≡ granted p.records p.inner ws rs c.args.section
-granted_is g c = let p = c.self.inside in enter_is p.records p.inner c.self.invariant.steady _ _ c.args.section (rw (← c.self.view_is) at c.in_ok-task.ensures.0)
+granted_is g c = let p = c.self.inside in enter_is c.self.invariant.steady _ _ c.args.section (rw (← c.self.view_is) at c.in_ok-task.ensures.0)
 
 pub returns-clause-value : goal.returns-clause-value
 returns-clause-value g c =

@@ -18,7 +18,7 @@ use Rattle.scheduler.proofs.engine.Engine.finish.Goals as goal
 refused_is : (g : Over) (c : goal.After-from_residual g)
     → let p = c.self.inside in let s = state_of p.inner (g.W.Queue.list p.waiting) (g.R.Queue.list p.released) in
     step (table_of p.records) Finish s ≡ refused s c.in_err-check_finish.field-0.0
-refused_is g c = let p = c.self.inside in finish_is p.records p.inner c.self.invariant.steady _ _ (rw (← c.self.view_is) at c.in_err-check_finish.ensures)
+refused_is g c = let p = c.self.inside in finish_is c.self.invariant.steady _ _ (rw (← c.self.view_is) at c.in_err-check_finish.ensures)
 
 pub returns-in_err-check_finish-clause-value : goal.returns-in_err-check_finish-clause-value
 returns-in_err-check_finish-clause-value g c =
@@ -31,13 +31,13 @@ returns-in_err-check_finish-clause-after g c = rw (← c.self.view_is) (ap (λ (
 pub finish-requires-clause-counts : goal.finish-requires-clause-counts
 finish-requires-clause-counts g c =
     let p = c.self.inside in
-    finishes_most p.records p.inner c.self.invariant.steady _ _ _ _ c.self.invariant.lists
+    finishes_most c.self.invariant.steady c.self.invariant.lists
 
 pub invariant_of-self : goal.invariant_of-self
 invariant_of-self g c =
     let p = c.self.inside in
     let some = finish_some p.inner (rw (← c.self.view_is) at c.in_ok-check_finish.ensures) in
-    (ended g.W.Queue g.R.Queue p.records p.inner p.waiting p.released c.self.invariant (finished_by p.inner).counts some.0 refl (omega arith) refl refl (omega (arith, some.1))
+    (ended c.self.invariant (finished_by p.inner).counts some.0 refl (omega arith) refl refl (omega (arith, some.1))
     c.finish.ensures (rw (← c.self.view_is) at c.again-entry.ensures) c.insert.ensures).fits
 
 -- a finish that is not refused is the machine's, and leaves its state
@@ -45,7 +45,7 @@ module _ (g : Over) (c : goal.After-running g) where
   ended_is :
       let p = c.self.inside in let ws = g.W.Queue.list p.waiting in let rs = g.R.Queue.list p.released in
       step (table_of p.records) Finish (state_of p.inner ws rs) ≡ done p.records p.inner ws rs
-  ended_is = let p = c.self.inside in finish_is p.records p.inner c.self.invariant.steady _ _ (rw (← c.self.view_is) at c.in_ok-check_finish.ensures)
+  ended_is = let p = c.self.inside in finish_is c.self.invariant.steady _ _ (rw (← c.self.view_is) at c.in_ok-check_finish.ensures)
 
   reached :
       let p = c.self.inside in let ws = g.W.Queue.list p.waiting in let rs = g.R.Queue.list p.released in
@@ -53,7 +53,7 @@ module _ (g : Over) (c : goal.After-running g) where
   reached =
       let p = c.self.inside in
       let some = finish_some p.inner (rw (← c.self.view_is) at c.in_ok-check_finish.ensures) in
-      let left = ended g.W.Queue g.R.Queue p.records p.inner p.waiting p.released c.self.invariant (finished_by p.inner).counts some.0 refl (omega arith) refl refl (omega (arith, some.1))
+      let left = ended c.self.invariant (finished_by p.inner).counts some.0 refl (omega arith) refl refl (omega (arith, some.1))
       c.finish.ensures (rw (← c.self.view_is) at c.again-entry.ensures) c.insert.ensures in
       c.select.ensures.after ∙ ap (selected (table_of p.records)) left.state
 

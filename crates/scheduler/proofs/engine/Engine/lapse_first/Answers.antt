@@ -17,8 +17,8 @@ use Rattle.scheduler.proofs.engine.Engine.lapse_first.Goals as goal
 pub lapse-requires : goal.lapse-requires
 lapse-requires g c =
     let p = c.self.inside in
-    let first = job_listed g.W.Queue g.R.Queue p.records p.inner p.waiting p.released c.self.invariant c.in-Some.e c.in-Some.ensures in
-    (omega (arith, first.released.0.0, p.records.copied.2), expiries_most p.records p.inner c.self.invariant.steady _ _ _ _ c.self.invariant.lists)
+    let first = job_listed c.self.invariant c.in-Some.e c.in-Some.ensures in
+    (omega (arith, first.released.0.0, p.records.copied.2), expiries_most c.self.invariant.steady c.self.invariant.lists)
 
 -- what is left once the job has lapsed
 after : (g : Over) (c : goal.After-lapse g)
@@ -28,7 +28,7 @@ after : (g : Over) (c : goal.After-lapse g)
     (state_of (lapsed_by p.inner e.task) (insert_sorted waiting_before (next_wait (table_of p.records) e.task e.deadline) (g.W.Queue.list p.waiting)) (rest_of (g.R.Queue.list p.released)))
 after g c =
     let p = c.self.inside in
-    gone_by g.W.Queue g.R.Queue p.records p.inner p.waiting p.released c.self.invariant c.in-Some.e c.in-Some.ensures c.take.ensures c.lapse.ensures c.next_release-entry.ensures.value c.insert.ensures
+    gone_by c.self.invariant c.in-Some.e c.in-Some.ensures c.take.ensures c.lapse.ensures c.next_release-entry.ensures.value c.insert.ensures
 
 pub invariant_of-self : goal.invariant_of-self
 invariant_of-self g c = (after g c).fits

@@ -26,7 +26,7 @@ kept_is : (g : Over) (c : goal.Then-is_open g)
     step (table_of p.records) (Leave c.args.grant.ticket) s ≡ refused s (NotInnermost c.args.grant.ticket)
 kept_is g c =
     let p = c.self.inside in
-    leave_is p.records p.inner c.self.invariant.steady c.args.grant.ticket _ _ (sym c.if-not-is_innermost.ensures) (sym (rw (← c.self.view_is) at c.if-is_open.ensures))
+    leave_is c.self.invariant.steady c.args.grant.ticket _ _ (sym c.if-not-is_innermost.ensures) (sym (rw (← c.self.view_is) at c.if-is_open.ensures))
 
 pub returns-then-is_open-clause-value : goal.returns-then-is_open-clause-value
 returns-then-is_open-clause-value g c = rw (← c.self.view_is) (ap (λ (o : Outcome). told o.answer) (sym (kept_is g c)))
@@ -40,7 +40,7 @@ spent_is : (g : Over) (c : goal.Else-is_open g)
     step (table_of p.records) (Leave c.args.grant.ticket) s ≡ refused s NotOpen
 spent_is g c =
     let p = c.self.inside in
-    leave_is p.records p.inner c.self.invariant.steady c.args.grant.ticket _ _ (sym c.if-not-is_innermost.ensures) (sym (rw (← c.self.view_is) at c.if-is_open.ensures))
+    leave_is c.self.invariant.steady c.args.grant.ticket _ _ (sym c.if-not-is_innermost.ensures) (sym (rw (← c.self.view_is) at c.if-is_open.ensures))
 
 pub returns-then-not-is_innermost-clause-value : goal.returns-then-not-is_innermost-clause-value
 returns-then-not-is_innermost-clause-value g c = rw (← c.self.view_is) (ap (λ (o : Outcome). told o.answer) (sym (spent_is g c)))
@@ -52,8 +52,8 @@ pub leave-requires-clause-counts : goal.leave-requires-clause-counts
 leave-requires-clause-counts g c =
     let p = c.self.inside in
     let steady = c.self.invariant.steady in
-    let some = leave_some p.records p.inner steady c.args.grant.ticket (sym c.if-not-is_innermost.ensures) in
-    omega (arith, steady.balanced.0, steady.balanced.1, top_open p.records p.inner steady some.0, some.1)
+    let some = leave_some steady c.args.grant.ticket (sym c.if-not-is_innermost.ensures) in
+    omega (arith, steady.balanced.0, steady.balanced.1, top_open steady some.0, some.1)
 
 pub invariant_of-self : goal.invariant_of-self
 invariant_of-self g c =
@@ -61,7 +61,7 @@ invariant_of-self g c =
     let k = p.records in
     let i = p.inner in
     let steady = c.self.invariant.steady in
-    let some = leave_some k i steady c.args.grant.ticket (sym c.if-not-is_innermost.ensures) in
+    let some = leave_some steady c.args.grant.ticket (sym c.if-not-is_innermost.ensures) in
     let last : i.depth - 1 < i.depth = omega (arith, some.0) in
     let wide = steady.tall.3 (i.depth - 1) (omega (arith, steady.tall.2, some.0)) in
     let few = (steady.known (i.depth - 1) last).2 in
@@ -69,11 +69,11 @@ invariant_of-self g c =
     (ap (chained (table_of k)) (sym (opens_top (top_of i).opened (top_of i).count no_open some.1 (omega (arith, few, wide)))) ∙ steady.nested (i.depth - 1) last)).1 in
     record {
       steady = subst (Steady k) (sym c.leave.ensures)
-          (top_ghosts k i steady (with_closed (top_of i)) some.0 (left_by i).counts refl refl (omega (arith, few)) wide nest (omega (arith, some.1)) steady.balanced.1);
+          (top_ghosts steady (with_closed (top_of i)) some.0 (left_by i).counts refl refl (omega (arith, few)) wide nest (omega (arith, some.1)) steady.balanced.1);
       waiting = c.self.invariant.waiting;
       released = c.self.invariant.released;
       lists = listed_as c.leave.ensures refl refl refl refl
-          (top_listed k i steady _ _ _ _ c.self.invariant.lists (with_closed (top_of i)) (left_by i).counts some.0 refl refl refl refl refl);
+          (top_listed steady c.self.invariant.lists (with_closed (top_of i)) (left_by i).counts some.0 refl refl refl refl refl);
     }
 
 -- a leave that is not refused is the machine's, and leaves its state
@@ -84,7 +84,7 @@ module _ (g : Over) (c : goal.After-running g) where
   gone_is :
       let p = c.self.inside in
       step (table_of p.records) (Leave c.args.grant.ticket) (state_of p.inner (g.W.Queue.list p.waiting) (g.R.Queue.list p.released)) ≡ chosen (table_of p.records) freed
-  gone_is = let p = c.self.inside in leave_is p.records p.inner c.self.invariant.steady c.args.grant.ticket _ _ (sym c.if-not-is_innermost.ensures) refl
+  gone_is = let p = c.self.inside in leave_is c.self.invariant.steady c.args.grant.ticket _ _ (sym c.if-not-is_innermost.ensures) refl
 
   reached : state_in g.W.Queue g.R.Queue c.select.new.self ≡ selected (table_of c.self.inside.records) freed
   reached =

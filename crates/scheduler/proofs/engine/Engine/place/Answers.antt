@@ -9,7 +9,7 @@ pub returns-then-task-self : goal.returns-then-task-self
 returns-then-task-self g c =
     let p = c.self.inside in
     let lists = c.self.invariant.lists in
-    rw (← c.self.view_is) (place_none p.records p.inner c.self.invariant.steady _ _ _ _ lists c.args.task c.if-task-self.true)
+    rw (← c.self.view_is) (place_none c.self.invariant.steady lists c.args.task c.if-task-self.true)
 
 pub returns : goal.returns
 returns g c =
@@ -17,4 +17,4 @@ returns g c =
     let lists = c.self.invariant.lists in
     let spot = ap (λ (i : Inner). place_from (spot_at i c.args.task)) c.inner.view_is in
     rw (← c.self.view_is)
-    (ap Some (c.from.ensures ∙ spot) ∙ place_by p.records p.inner c.self.invariant.steady _ _ _ _ lists c.args.task c.if-task-self.false (spot_at p.inner c.args.task) refl)
+    (ap Some (c.from.ensures ∙ spot) ∙ place_by c.self.invariant.steady lists c.args.task c.if-task-self.false (spot_at p.inner c.args.task) refl)

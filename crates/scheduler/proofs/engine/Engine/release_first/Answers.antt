@@ -16,8 +16,8 @@ use Rattle.scheduler.proofs.engine.Engine.release_first.Goals as goal
 pub release-requires : goal.release-requires
 release-requires g c =
     let p = c.self.inside in
-    let first = task_listed g.W.Queue g.R.Queue p.records p.inner p.waiting p.released c.self.invariant c.in-Some.w c.in-Some.ensures in
-    (omega (arith, first.waiting.0.0, p.records.copied.2), releases_most p.records p.inner c.self.invariant.steady _ _ _ _ c.self.invariant.lists)
+    let first = task_listed c.self.invariant c.in-Some.w c.in-Some.ensures in
+    (omega (arith, first.waiting.0.0, p.records.copied.2), releases_most c.self.invariant.steady c.self.invariant.lists)
 
 -- what is left once the task is released
 after : (g : Over) (c : goal.After-release g)
@@ -27,7 +27,7 @@ after : (g : Over) (c : goal.After-release g)
     (state_of (released_by p.inner w.task) (rest_of (g.W.Queue.list p.waiting)) (insert_sorted released_before (release_of (table_of p.records) w) (g.R.Queue.list p.released)))
 after g c =
     let p = c.self.inside in
-    let_out g.W.Queue g.R.Queue p.records p.inner p.waiting p.released c.self.invariant c.in-Some.w c.in-Some.ensures (omega (arith, c.if-w-t.false, c.requires))
+    let_out c.self.invariant c.in-Some.w c.in-Some.ensures (omega (arith, c.if-w-t.false, c.requires))
     c.release.ensures c.take.ensures c.released-entry.ensures.value c.insert.ensures
 
 pub invariant_of-self : goal.invariant_of-self

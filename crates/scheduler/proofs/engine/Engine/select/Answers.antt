@@ -17,7 +17,7 @@ after : (g : Over) (c : goal.After-push g)
     (state_of (pushed p.inner e.task e.deadline) (g.W.Queue.list p.waiting) (rest_of (g.R.Queue.list p.released)))
 after g c =
     let p = c.self.inside in
-    picked_up g.W.Queue g.R.Queue p.records p.inner p.waiting p.released c.self.invariant c.in-Some.e c.in-Some.ensures c.take.ensures c.push.ensures
+    picked_up c.self.invariant c.in-Some.e c.in-Some.ensures c.take.ensures c.push.ensures
 
 pub invariant_of-self : goal.invariant_of-self
 invariant_of-self g c = (after g c).fits
@@ -30,11 +30,11 @@ returns-then-goes-clause-after g c =
     let steady = c.self.invariant.steady in
     let rs = g.R.Queue.list p.released in
     let goes = rw (← c.self.view_is) at c.goes.ensures in
-    let room = job_room g.W.Queue g.R.Queue p.records p.inner p.waiting p.released c.self.invariant e c.in-Some.ensures in
+    let room = job_room c.self.invariant e c.in-Some.ensures in
     rw (← c.self.view_is)
     ((after g c).state
     ∙ pick_yes k p.inner (g.W.Queue.list p.waiting) rs e (rest_of rs) (first_is rs e c.in-Some.ensures)
-    (sym (goes_over_lem k p.inner e (high p.records p.inner steady)) ∙ sym goes ∙ c.if-goes.true) (omega (arith, room, steady.tall.0)))
+    (sym (goes_over_lem k p.inner e (high steady)) ∙ sym goes ∙ c.if-goes.true) (omega (arith, room, steady.tall.0)))
 
 pub returns-else-goes-clause-after : goal.returns-else-goes-clause-after
 returns-else-goes-clause-after g c =
@@ -45,7 +45,7 @@ returns-else-goes-clause-after g c =
     let goes = rw (← c.self.view_is) at c.goes.ensures in
     rw (← c.self.view_is)
     (pick_no k p.inner (g.W.Queue.list p.waiting) rs e (rest_of rs) (first_is rs e c.in-Some.ensures)
-    (sym (goes_over_lem k p.inner e (high p.records p.inner c.self.invariant.steady)) ∙ sym goes ∙ c.if-goes.false))
+    (sym (goes_over_lem k p.inner e (high c.self.invariant.steady)) ∙ sym goes ∙ c.if-goes.false))
 
 pub returns-in_default-clause-after : goal.returns-in_default-clause-after
 returns-in_default-clause-after g c =
