@@ -1,7 +1,8 @@
 -- How the lists fit the core's own fields is kept by each inner move: a job ends, lapses, is released or is pushed, and a section opens or closes.
-use Rattle.std.proofs.Common.{◌≡◌, ℕ, ◌+◌, ◌-◌, ◌*◌, ◌<◌, ◌≤◌, Bool, true, false, eqb, ◌≢◌, List, ◌∷◌, length, sym, refl, ap, ◌∙◌, subst, inl, inr, arith}
+use Rattle.std.proofs.Common.{◌≡◌, ℕ, ◌+◌, ◌-◌, ◌*◌, ◌<◌, ◌≤◌, Bool, true, false, ◌≢◌, List, ◌∷◌, length, sym, refl, ap, ◌∙◌, inl, inr, arith}
 use Rattle.std.specs.List.{AllByRecursion}
-use Rattle.std.proofs.lemmas.Bool.{cases_eq, eq-eqb, eqb-true, or_left, or_right, or_cases, false≢true}
+use Rattle.std.proofs.lemmas.Bool.{cases_eq}
+use Rattle.std.proofs.lemmas.Bool.Decides.{nat_tests}
 use Rattle.std.proofs.ByRecursion.{All-weaker}
 use Rattle.table.specs.Limits.{most_tasks, largest}
 use Rattle.queue.specs.declared.waiting.Waiting.{Waiting}
@@ -32,13 +33,13 @@ use Rattle.scheduler.proofs.Queues.{put_in, none_of, not_of, sum-insert, sum-mos
 
 -- the three spots are different
 pub stacked_waits : (s : Spot) (p : ℕ) → stands_at s p ≡ true → s ≡ Waits → ⊥
-stacked_waits s p t e = false≢true (sym (ap (λ x. stands_at x p) e) ∙ t)
+stacked_waits s p t e = grind arith
 
 pub stacked_released : (s : Spot) (p : ℕ) → stands_at s p ≡ true → s ≡ IsReleased → ⊥
-stacked_released s p t e = false≢true (sym (ap (λ x. stands_at x p) e) ∙ t)
+stacked_released s p t e = grind arith
 
 pub released_waits : (s : Spot) → s ≡ IsReleased → s ≡ Waits → ⊥
-released_waits s a b = let z : ◌≡◌ {A = ℕ} 0 1 = cc in omega arith
+released_waits s a b = cc
 
 -- the entry with which a task waits after a job of it
 abbrev pub next_wait : Table → ℕ → ℕ → Waiting
@@ -80,22 +81,20 @@ module _ {k : Records} {i : Inner} (gh : Steady k i) where
         → Covers i xs → Covers (with_spot i task s) ys
     keep_all task s xs ys here others all t h e =
         elim (cases_eq t task) [
-          | inl same ↦
-              let at : spot_at (with_spot i task s) t ≡ s = ap (spot_at (with_spot i task s)) same ∙ spot_same i task s (spot_room task (omega arith)) in
-              ap (λ n. queued f n ys) same ∙ here (sym at ∙ e)
-          | inr ne ↦ others t ne (all t h (sym (spot_other i task t s ne) ∙ e))
+          | inl same ↦ (let at = spot_same i task s (spot_room task (omega arith)) in grind arith)
+          | inr ne ↦ (let at = spot_other i task t s ne in grind (arith, others t ne, all t h))
         ]
 
     -- with an entry more for the spot, and with the first entry less for another
     put_all : (b : E → E → Bool) (x : E) (xs : List E) → Covers i xs → Covers (with_spot i (f x) v) (insert_sorted b x xs)
     put_all b x xs =
-        keep_all (f x) v xs (insert_sorted b x xs) (λ _. queued_insert b f (f x) x xs ∙ or_left _ (queued f (f x) xs) (eq-eqb (f x) (f x) refl))
-        (λ t _ q. queued_insert b f t x xs ∙ or_right (eqb (f x) t) _ q)
+        keep_all (f x) v xs (insert_sorted b x xs) (λ _. let among = queued_insert b f (f x) x xs in grind (arith, nat_tests))
+        (λ t _ q. let among = queued_insert b f t x xs in grind arith)
 
     take_all : (s : Spot) (x : E) (xs : List E) → (s ≡ v → ⊥) → Covers i (x ∷ xs) → Covers (with_spot i (f x) s) xs
     take_all s x xs not =
         keep_all (f x) s (x ∷ xs) xs (λ e. absurd (not e))
-        (λ t ne q. elim (or_cases (eqb (f x) t) _ q) [ inl e ↦ absurd (ne (sym (eqb-true (f x) t e))) | inr r ↦ r ])
+        (λ t ne q. grind (arith, nat_tests))
 
     stay_all : (task : ℕ) (s : Spot) (xs : List E) → (s ≡ v → ⊥) → Covers i xs → Covers (with_spot i task s) xs
     stay_all task s xs not = keep_all task s xs xs (λ e. absurd (not e)) (λ t _ q. q)
@@ -161,8 +160,7 @@ module _ {k : Records} {i : Inner} (gh : Steady k i) where
         let f : Job → ℕ = λ j. next_of (table_of k) j.task j.deadline in
         let old = ap (sum_of f) (jobs_top i.stack i.depth some (high gh)) in
         let new = ap (sum_of f) (jobs_set i.stack i.depth r some (high gh)) in
-        let next : next_of (table_of k) r.task r.deadline ≡ next_of (table_of k) (top_of i).task (top_of i).deadline =
-        ap (λ t. next_of (table_of k) t r.deadline) own ∙ ap (next_of (table_of k) (top_of i).task) due in
+        let next : next_of (table_of k) r.task r.deadline ≡ next_of (table_of k) (top_of i).task (top_of i).deadline = cc in
         record {
           waiting_room = li.waiting_room;
           released_room = li.released_room;
@@ -191,7 +189,7 @@ module _ {k : Records} {i : Inner} (gh : Steady k i) where
     push_listed =
         let jobs = ap (sum_of (λ (j : Job). next_of (table_of k) j.task j.deadline))
         (jobs_push i.stack i.depth (record { task = e.task; deadline = e.deadline; count = 0; opened = (job_at i i.depth).opened }) (omega (arith, push_room, gh.tall.0))) in
-        let on = eq-eqb i.depth i.depth refl in
+        let on : stands_at (Stacked i.depth) i.depth ≡ true = grind (arith, nat_tests) in
         record {
           waiting_room = li.waiting_room;
           released_room = li.released_room;
@@ -265,14 +263,3 @@ module _ {k : Records} {i : Inner} (gh : Steady k i) where
           few = omega (arith, li.few, sum, t.works, t.early, t.cyclic);
           jobs = omega (arith, li.jobs, length-insert released_before out rs);
         }
-
--- the same of equal fields and lists
-pub listed_as :
-    {k : Records} {i i' : Inner} {ws ws' : List Waiting} {rs rs' : List Released} {wc wc' rc rc' : ℕ}
-    → i' ≡ i → ws' ≡ ws → rs' ≡ rs → wc' ≡ wc → rc' ≡ rc → Listed k i ws rs wc rc → Listed k i' ws' rs' wc' rc'
-listed_as {k} {i} {i'} {ws} {ws'} {rs} {rs'} {wc} {wc'} {rc} {rc'} a b c d e li =
-    subst (λ (x : Inner). Listed k x ws' rs' wc' rc') (sym a)
-    (subst (λ (x : List Waiting). Listed k i x rs' wc' rc') (sym b)
-    (subst (λ (x : List Released). Listed k i ws x wc' rc') (sym c)
-    (subst (λ x. Listed k i ws rs x rc') (sym d)
-    (subst (λ x. Listed k i ws rs wc x) (sym e) li))))

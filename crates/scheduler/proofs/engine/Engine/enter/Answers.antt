@@ -1,15 +1,15 @@
-use Rattle.std.proofs.Common.{rules, ◌≡◌, ℕ, ◌-◌, Err, sym, refl, ap, ◌∙◌, subst, arith, length-set}
+use Rattle.std.proofs.Common.{rules, ◌≡◌, ℕ, ◌-◌, Err, sym, refl, ap, ◌∙◌, arith, length-set}
 use Rattle.machine.specs.declared.call.Call.TheVariants.{Enter}
 use Rattle.machine.specs.declared.call.Answer.TheVariants.{Granted}
 use Rattle.machine.specs.Step.{Outcome, step, refused}
 use Rattle.scheduler.specs.declared.stack.Inner.{Inner}
 use Rattle.scheduler.specs.View.{table_of, state_of}
-use Rattle.scheduler.specs.Steady.{Steady, chained}
 use Rattle.scheduler.specs.Moves.{top_of, with_open, entered_by}
 use Rattle.scheduler.specs.Calls.{of_enter}
 use Rattle.scheduler.proofs.Jobs.{opens_push}
 use Rattle.scheduler.proofs.Ghosts.{top_ghosts}
-use Rattle.scheduler.proofs.Fits.{top_listed, listed_as}
+use Rattle.scheduler.proofs.Fits.{top_listed}
+use Rattle.scheduler.proofs.Steps.{left}
 use Rattle.scheduler.proofs.Calls.{granted, enter_is, enter_some}
 use Rattle.scheduler.proofs.engine.Engine.enter.Given.{Over}
 use Rattle.scheduler.proofs.engine.Engine.enter.Goals as goal
@@ -36,24 +36,16 @@ enter-serial-requires-clause-top g c =
 
 pub invariant_of-self : goal.invariant_of-self
 invariant_of-self g c =
-    let p = c.self.inside in
-    let k = p.records in
-    let i = p.inner in
+    let i = c.self.inside.inner in
     let x = c.args.section in
+    let top = top_of i in
     let steady = c.self.invariant.steady in
     let open-to = enter_some steady x (rw (← c.self.view_is) at c.in_ok-task.ensures.0) in
-    let wide = steady.tall.3 (i.depth - 1) (omega (arith, steady.tall.2, open-to.some)) in
-    record {
-      steady = subst (Steady k) (sym c.enter-serial.ensures.after)
-          (top_ghosts steady (with_open x i.counts.entries (top_of i)) open-to.some (entered_by i x).counts refl refl (omega (arith, open-to.room))
-          (length-set (top_of i).opened (top_of i).count _ ∙ wide)
-          (ap (chained (table_of k)) (opens_push (top_of i).opened (top_of i).count (record { section = x; serial = i.counts.entries }) (omega (arith, open-to.room, wide))) ∙ open-to.nested)
-          (omega arith) (omega (arith, open-to.counted)));
-      waiting = c.self.invariant.waiting;
-      released = c.self.invariant.released;
-      lists = listed_as c.enter-serial.ensures.after refl refl refl refl
-          (top_listed steady c.self.invariant.lists (with_open x i.counts.entries (top_of i)) (entered_by i x).counts open-to.some refl refl refl refl refl);
-    }
+    let full = steady.tall.3 (i.depth - 1) (omega (arith, steady.tall.2, open-to.some)) in
+    (left c.enter-serial.ensures.after refl refl refl refl c.self.invariant.waiting c.self.invariant.released
+    (top_ghosts steady (with_open x i.counts.entries top) open-to.some (entered_by i x).counts refl refl (omega (arith, open-to.room)) (length-set top.opened top.count _ ∙ full)
+    (rw (opens_push top.opened top.count (record { section = x; serial = i.counts.entries }) (omega (arith, open-to.room, full))) open-to.nested) (omega arith) (omega (arith, open-to.counted)))
+    (top_listed steady c.self.invariant.lists (with_open x i.counts.entries top) (entered_by i x).counts open-to.some refl refl refl refl refl)).fits
 
 -- an entry that is not refused is the machine's
 granted_is : (g : Over) (c : goal.After-enter-serial g)

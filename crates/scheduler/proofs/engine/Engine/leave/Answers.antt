@@ -1,4 +1,4 @@
-use Rattle.std.proofs.Common.{◌≡◌, ◌-◌, ◌<◌, sym, refl, ap, ◌∙◌, subst, arith}
+use Rattle.std.proofs.Common.{◌≡◌, ◌-◌, ◌<◌, sym, refl, ap, ◌∙◌, arith}
 use Rattle.machine.specs.declared.call.Call.TheVariants.{Leave}
 use Rattle.machine.specs.declared.call.Answer.TheVariants.{Running}
 use Rattle.machine.specs.declared.call.Refusal.TheVariants.{NotInnermost, NotOpen}
@@ -8,13 +8,13 @@ use Rattle.machine.proofs.Cases.{chosen}
 use Rattle.scheduler.specs.declared.stack.Inner.{Inner}
 use Rattle.scheduler.specs.Answered.{told}
 use Rattle.scheduler.specs.View.{table_of, open_of, opens_of, jobs_of, state_of}
-use Rattle.scheduler.specs.Steady.{Steady, chained}
 use Rattle.scheduler.specs.Moves.{top_of, no_open, last_open, with_closed, left_by}
 use Rattle.scheduler.specs.Parts.{Parts, state_in}
 use Rattle.scheduler.proofs.Jobs.{opens_top}
 use Rattle.scheduler.proofs.Facts.{chained_parts}
-use Rattle.scheduler.proofs.Ghosts.{top_open, top_ghosts}
-use Rattle.scheduler.proofs.Fits.{top_listed, listed_as}
+use Rattle.scheduler.proofs.Ghosts.{wide, top_open, top_ghosts}
+use Rattle.scheduler.proofs.Fits.{top_listed}
+use Rattle.scheduler.proofs.Steps.{left}
 use Rattle.scheduler.proofs.Picks.{running_over}
 use Rattle.scheduler.proofs.Grants.{leave_some, leave_is}
 use Rattle.scheduler.proofs.engine.Engine.leave.Given.{Over}
@@ -57,24 +57,18 @@ leave-requires-clause-counts g c =
 
 pub invariant_of-self : goal.invariant_of-self
 invariant_of-self g c =
-    let p = c.self.inside in
-    let k = p.records in
-    let i = p.inner in
+    let k = table_of c.self.inside.records in
+    let i = c.self.inside.inner in
+    let top = top_of i in
     let steady = c.self.invariant.steady in
     let some = leave_some steady c.args.grant.ticket (sym c.if-not-is_innermost.ensures) in
     let last : i.depth - 1 < i.depth = omega (arith, some.0) in
-    let wide = steady.tall.3 (i.depth - 1) (omega (arith, steady.tall.2, some.0)) in
-    let few = (steady.known (i.depth - 1) last).2 in
-    let nest = (chained_parts (table_of k) (open_of (last_open (top_of i))) (opens_of (top_of i).opened ((top_of i).count - 1))
-    (ap (chained (table_of k)) (sym (opens_top (top_of i).opened (top_of i).count no_open some.1 (omega (arith, few, wide)))) ∙ steady.nested (i.depth - 1) last)).1 in
-    record {
-      steady = subst (Steady k) (sym c.leave.ensures)
-          (top_ghosts steady (with_closed (top_of i)) some.0 (left_by i).counts refl refl (omega (arith, few)) wide nest (omega (arith, some.1)) steady.balanced.1);
-      waiting = c.self.invariant.waiting;
-      released = c.self.invariant.released;
-      lists = listed_as c.leave.ensures refl refl refl refl
-          (top_listed steady c.self.invariant.lists (with_closed (top_of i)) (left_by i).counts some.0 refl refl refl refl refl);
-    }
+    let full = steady.tall.3 (i.depth - 1) (omega (arith, steady.tall.2, some.0)) in
+    let nest = (chained_parts k (open_of (last_open top)) (opens_of top.opened (top.count - 1))
+    (rw (opens_top top.opened top.count no_open some.1 (wide steady (i.depth - 1) last)) at (steady.nested (i.depth - 1) last))).1 in
+    (left c.leave.ensures refl refl refl refl c.self.invariant.waiting c.self.invariant.released
+    (top_ghosts steady (with_closed top) some.0 (left_by i).counts refl refl (omega (arith, (steady.known (i.depth - 1) last).2)) full nest (omega (arith, some.1)) steady.balanced.1)
+    (top_listed steady c.self.invariant.lists (with_closed top) (left_by i).counts some.0 refl refl refl refl refl)).fits
 
 -- a leave that is not refused is the machine's, and leaves its state
 module _ (g : Over) (c : goal.After-running g) where
