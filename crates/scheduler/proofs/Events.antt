@@ -1,118 +1,66 @@
 -- What an advance does before selection, over the core's own fields and the queues' lists, is what the machine does.
-use Rattle.std.proofs.Common.{◌≡◌, ℕ, ◌+◌, ◌-◌, ◌<◌, ◌≤◌, true, false, ◌&&◌, eqb, ltb, List, [], ◌∷◌, length, sym, ap, ◌∙◌, subst, inl, inr, add-zero, arith}
-use Rattle.std.proofs.lemmas.Bool.{cond-true, cond-false, and_parts, cases_lt, ltb-true, lt-ltb}
+use Rattle.std.proofs.Common.{◌≡◌, ℕ, ◌-◌, ◌<◌, true, false, ◌==◌, List, ◌∷◌, length, arith}
+use Rattle.std.proofs.lemmas.Bool.Decides.{nat_tests}
 use Rattle.queue.specs.declared.waiting.Waiting.{Waiting}
 use Rattle.queue.specs.declared.released.Released.{Released}
 use Rattle.queue.specs.Order.{insert_sorted}
 use Rattle.queue.specs.Entries.{waiting_before, released_before}
-use Rattle.machine.specs.State.{Table, State}
+use Rattle.machine.specs.State.{Table}
 use Rattle.machine.specs.Step.{top_expired, lapsed, released_at, release_of}
 use Rattle.scheduler.specs.declared.records.Records.{Records}
 use Rattle.scheduler.specs.declared.stack.Inner.{Inner}
 use Rattle.scheduler.specs.View.{table_of, job_of, jobs_of, state_of}
-use Rattle.scheduler.specs.Steady.{next_of, Steady}
+use Rattle.scheduler.specs.Steady.{Steady}
 use Rattle.scheduler.specs.Moves.{top_of, most, expired_by, is_due, again_of}
 use Rattle.scheduler.specs.Moves.{lapsed_by, released_by}
 use Rattle.scheduler.specs.Fitted.{Listed}
 use Rattle.scheduler.proofs.Jobs.{jobs_none, jobs_top, opens_length}
-use Rattle.scheduler.proofs.Ghosts.{tall, known}
-use Rattle.scheduler.proofs.Fits.{releases_few}
+use Rattle.scheduler.proofs.Ghosts.{high, wide}
+use Rattle.scheduler.proofs.Fits.{next_wait, releases_few}
 
-module _ (k : Records) (i : Inner) (gh : Steady k i) where
-  pub high : i.depth ≤ length i.stack
-  high = omega (arith, (tall k i gh).0, (tall k i gh).2)
-
+module _ {k : Records} {i : Inner} (gh : Steady k i) where
   pub top_count : 0 < i.depth → length (job_of (top_of i)).opened ≡ (top_of i).count
-  top_count some =
-      opens_length (top_of i).opened (top_of i).count (omega (arith, (known k i gh (i.depth - 1) (omega arith)).2, (tall k i gh).3 (i.depth - 1) (omega (arith, (tall k i gh).2))))
+  top_count some = opens_length (top_of i).opened (top_of i).count (wide gh (i.depth - 1) (omega arith))
 
   -- no count of jobs comes near the end of its type
-  module _ (ws : List Waiting) (rs : List Released) (wc rc : ℕ) (li : Listed k i ws rs wc rc) where
+  module _ {ws : List Waiting} {rs : List Released} {wc rc : ℕ} (li : Listed k i ws rs wc rc) where
     pub releases_most : i.counts.releases < most
-    releases_most = omega (arith, releases_few k i gh ws rs wc rc li)
+    releases_most = omega (arith, releases_few gh li)
 
     pub expiries_most : i.counts.expiries < most
-    expiries_most = omega (arith, releases_few k i gh ws rs wc rc li, li.jobs)
+    expiries_most = omega (arith, releases_few gh li, li.jobs)
 
     pub finishes_most : i.counts.finishes < most
-    finishes_most = omega (arith, releases_few k i gh ws rs wc rc li, li.jobs)
+    finishes_most = omega (arith, releases_few gh li, li.jobs)
 
   -- the running job ends at its deadline
   module _ (t : ℕ) (ws : List Waiting) (rs : List Released) where
     pub due_some : is_due i t ≡ true → 0 < i.depth
-    due_some d = ltb-true 0 i.depth (and_parts (ltb 0 i.depth) _ d).0
+    due_some d = grind (arith, nat_tests)
 
     pub expire_yes : is_due i t ≡ true
         → state_of (expired_by i) (insert_sorted waiting_before (again_of (table_of k) i) ws) rs ≡ top_expired (table_of k) t (state_of i ws rs) (jobs_of i.stack i.depth)
     expire_yes d =
-        let state : ℕ → State = λ n. record {
-          clock = i.clock;
-          waiting = insert_sorted waiting_before (again_of (table_of k) i) ws;
-          released = rs;
-          stack = jobs_of i.stack (i.depth - 1);
-          counts = record { releases = i.counts.releases; finishes = i.counts.finishes; expiries = i.counts.expiries + 1; entries = i.counts.entries; leaves = i.counts.leaves; taken = i.counts.taken + n };
-        } in
-        ap state (sym (top_count (due_some d)))
-        ∙ sym (cond-true (eqb (top_of i).deadline t) (state (length (job_of (top_of i)).opened)) (state_of i ws rs) (and_parts (ltb 0 i.depth) _ d).1)
-        ∙ ap (top_expired (table_of k) t (state_of i ws rs)) (sym (jobs_top i.stack i.depth (due_some d) high))
-
-    empty_stays : i.depth ≡ 0 → state_of i ws rs ≡ top_expired (table_of k) t (state_of i ws rs) (jobs_of i.stack i.depth)
-    empty_stays z = ap (top_expired (table_of k) t (state_of i ws rs)) (sym (ap (jobs_of i.stack) z ∙ jobs_none i.stack))
-
-    later_stays : 0 < i.depth → eqb (top_of i).deadline t ≡ false → state_of i ws rs ≡ top_expired (table_of k) t (state_of i ws rs) (jobs_of i.stack i.depth)
-    later_stays some later =
-        sym (cond-false (eqb (top_of i).deadline t) _ (state_of i ws rs) later)
-        ∙ ap (top_expired (table_of k) t (state_of i ws rs)) (sym (jobs_top i.stack i.depth some high))
+        let count = top_count (due_some d) in
+        let top = jobs_top i.stack i.depth (due_some d) (high gh) in
+        grind (arith, nat_tests)
 
     pub expire_no : is_due i t ≡ false → state_of i ws rs ≡ top_expired (table_of k) t (state_of i ws rs) (jobs_of i.stack i.depth)
     expire_no d =
-        elim (cases_lt 0 i.depth) [
-          | inl some ↦ later_stays some (subst (λ b. (b && eqb (top_of i).deadline t) ≡ false) (lt-ltb 0 i.depth some) d)
-          | inr none ↦ empty_stays (omega arith)
-        ]
+        let none = jobs_none i.stack in
+        let top = λ (some : 0 < i.depth). jobs_top i.stack i.depth some (high gh) in
+        grind (arith, nat_tests)
 
 -- the first released job ends at its deadline
 module _ (k : Table) (i : Inner) (t : ℕ) (ws : List Waiting) (rs : List Released) (e : Released) (es : List Released) (at : rs ≡ e ∷ es) where
-  abbrev entry : Waiting
-  entry = record { release = next_of k e.task e.deadline; task = e.task }
-
   pub lapse_step :
-      eqb e.deadline t ≡ true → lapsed k t (state_of (lapsed_by i e.task) (insert_sorted waiting_before entry ws) es) es ≡ lapsed k t (state_of i ws rs) rs
-  lapse_step now =
-      let state : ℕ → State = λ n. record {
-        clock = i.clock;
-        waiting = insert_sorted waiting_before entry ws;
-        released = es;
-        stack = jobs_of i.stack i.depth;
-        counts = record { releases = i.counts.releases; finishes = i.counts.finishes; expiries = i.counts.expiries + 1; entries = i.counts.entries; leaves = i.counts.leaves; taken = n };
-      } in
-      ap (λ n. lapsed k t (state n) es) (sym (add-zero i.counts.taken))
-      ∙ sym (cond-true (eqb e.deadline t) (lapsed k t (state (i.counts.taken + 0)) es) (state_of i ws (e ∷ es)) now)
-      ∙ ap (λ (l : List Released). lapsed k t (state_of i ws l) l) (sym at)
-
-  pub lapse_later : eqb e.deadline t ≡ false → lapsed k t (state_of i ws rs) rs ≡ state_of i ws rs
-  lapse_later later =
-      ap (λ (l : List Released). lapsed k t (state_of i ws l) l) at
-      ∙ cond-false (eqb e.deadline t) _ (state_of i ws (e ∷ es)) later
-      ∙ ap (λ (l : List Released). state_of i ws l) (sym at)
-
-pub lapse_none : (k : Table) (i : Inner) (t : ℕ) (ws : List Waiting) (rs : List Released) → rs ≡ [] → lapsed k t (state_of i ws rs) rs ≡ state_of i ws rs
-lapse_none k i t ws rs at = ap (λ (l : List Released). lapsed k t (state_of i ws l) l) at ∙ ap (λ (l : List Released). state_of i ws l) (sym at)
+      (e.deadline == t) ≡ true
+      → lapsed k t (state_of (lapsed_by i e.task) (insert_sorted waiting_before (next_wait k e.task e.deadline) ws) es) es ≡ lapsed k t (state_of i ws rs) rs
+  lapse_step now = grind arith
 
 -- the first waiting task is released
 module _ (k : Table) (i : Inner) (t : ℕ) (ws : List Waiting) (rs : List Released) (w : Waiting) (rest : List Waiting) (at : ws ≡ w ∷ rest) where
   pub release_step :
-      eqb w.release t ≡ true
+      (w.release == t) ≡ true
       → released_at k t (state_of (released_by i w.task) rest (insert_sorted released_before (release_of k w) rs)) rest ≡ released_at k t (state_of i ws rs) ws
-  release_step now =
-      sym (cond-true (eqb w.release t) (released_at k t (state_of (released_by i w.task) rest (insert_sorted released_before (release_of k w) rs)) rest) (state_of i (w ∷ rest) rs) now)
-      ∙ ap (λ (l : List Waiting). released_at k t (state_of i l rs) l) (sym at)
-
-  pub release_later : eqb w.release t ≡ false → released_at k t (state_of i ws rs) ws ≡ state_of i ws rs
-  release_later later =
-      ap (λ (l : List Waiting). released_at k t (state_of i l rs) l) at
-      ∙ cond-false (eqb w.release t) _ (state_of i (w ∷ rest) rs) later
-      ∙ ap (λ (l : List Waiting). state_of i l rs) (sym at)
-
-pub release_none : (k : Table) (i : Inner) (t : ℕ) (ws : List Waiting) (rs : List Released) → ws ≡ [] → released_at k t (state_of i ws rs) ws ≡ state_of i ws rs
-release_none k i t ws rs at = ap (λ (l : List Waiting). released_at k t (state_of i l rs) l) at ∙ ap (λ (l : List Waiting). state_of i l rs) (sym at)
+  release_step now = grind arith

@@ -1,7 +1,8 @@
 -- How the lists fit the core's own fields is kept by each inner move: a job ends, lapses, is released or is pushed, and a section opens or closes.
-use Rattle.std.proofs.Common.{◌≡◌, ℕ, ◌+◌, ◌-◌, ◌*◌, ◌<◌, ◌≤◌, Bool, true, false, eqb, ◌≢◌, List, ◌∷◌, length, sym, refl, ap, ◌∙◌, subst, inl, inr, arith}
+use Rattle.std.proofs.Common.{◌≡◌, ℕ, ◌+◌, ◌-◌, ◌*◌, ◌<◌, ◌≤◌, Bool, true, false, ◌≢◌, List, ◌∷◌, length, sym, refl, ap, ◌∙◌, inl, inr, arith}
 use Rattle.std.specs.List.{AllByRecursion}
-use Rattle.std.proofs.lemmas.Bool.{cases_eq, eq-eqb, eqb-true, or_left, or_right, or_cases, false≢true}
+use Rattle.std.proofs.lemmas.Bool.{cases_eq}
+use Rattle.std.proofs.lemmas.Bool.Decides.{nat_tests}
 use Rattle.std.proofs.ByRecursion.{All-weaker}
 use Rattle.table.specs.Limits.{most_tasks, largest}
 use Rattle.queue.specs.declared.waiting.Waiting.{Waiting}
@@ -11,7 +12,7 @@ use Rattle.queue.specs.Meaning.{queued}
 use Rattle.queue.specs.Answer.{inserted}
 use Rattle.queue.specs.Entries.{waiting_before, released_before, waiting_order, released_order}
 use Rattle.queue.proofs.Queued.{queued_insert}
-use Rattle.machine.specs.State.{Job}
+use Rattle.machine.specs.State.{Table, Job}
 use Rattle.machine.specs.Step.{last_instant, release_of}
 use Rattle.machine.proofs.Lists.{all_insert, all_map2}
 use Rattle.machine.proofs.Flow.{length-insert}
@@ -27,18 +28,22 @@ use Rattle.scheduler.specs.Moves.{with_counts, with_spot, with_top, top_of, push
 use Rattle.scheduler.specs.Fitted.{sum_of, WaitsIn, ReleasedIn, Listed}
 use Rattle.scheduler.proofs.Jobs.{jobs_top, jobs_push, jobs_set, jobs_length}
 use Rattle.scheduler.proofs.Facts.{timed_at}
-use Rattle.scheduler.proofs.Ghosts.{tall, known, noted, spot_same, spot_other}
+use Rattle.scheduler.proofs.Ghosts.{high, spot_same, spot_other}
 use Rattle.scheduler.proofs.Queues.{put_in, none_of, not_of, sum-insert, sum-most, jobs_each}
 
 -- the three spots are different
 pub stacked_waits : (s : Spot) (p : ℕ) → stands_at s p ≡ true → s ≡ Waits → ⊥
-stacked_waits s p t e = false≢true (sym (ap (λ x. stands_at x p) e) ∙ t)
+stacked_waits s p t e = grind arith
 
 pub stacked_released : (s : Spot) (p : ℕ) → stands_at s p ≡ true → s ≡ IsReleased → ⊥
-stacked_released s p t e = false≢true (sym (ap (λ x. stands_at x p) e) ∙ t)
+stacked_released s p t e = grind arith
 
 pub released_waits : (s : Spot) → s ≡ IsReleased → s ≡ Waits → ⊥
-released_waits s a b = let z : ◌≡◌ {A = ℕ} 0 1 = cc in omega arith
+released_waits s a b = cc
+
+-- the entry with which a task waits after a job of it
+abbrev pub next_wait : Table → ℕ → ℕ → Waiting
+next_wait k task deadline = record { release = next_of k task deadline; task = task }
 
 module _ (k : Records) (i : Inner) where
   -- tasks with another spot are other tasks
@@ -57,13 +62,13 @@ module _ (k : Records) (i : Inner) where
   keep_released task s rs apart all =
       all_map2 (λ e. e.task ≢ task) (ReleasedIn k i) (ReleasedIn k (with_spot i task s)) (λ e ne h. (h.0, spot_other i task e.task s ne ∙ h.1, h.2)) rs apart all
 
-module _ (k : Records) (i : Inner) (gh : Steady k i) where
+module _ {k : Records} {i : Inner} (gh : Steady k i) where
   -- the next release of a task is not too far off
   pub next_near : (task deadline : ℕ) → task < k.sizes.tasks → deadline ≤ latest → next_of (table_of k) task deadline ≤ latest + largest
   next_near task deadline h soon = omega (arith, (timed_at k task h).near)
 
   spot_room : (task : ℕ) → task < k.sizes.tasks → task < length i.spots
-  spot_room task h = omega (arith, k.copied.2, (tall k i gh).1)
+  spot_room task h = omega (arith, k.copied.2, gh.tall.1)
 
   -- every task with a spot is among the entries
   module _ {E : Type 0} (f : E → ℕ) (v : Spot) where
@@ -76,54 +81,49 @@ module _ (k : Records) (i : Inner) (gh : Steady k i) where
         → Covers i xs → Covers (with_spot i task s) ys
     keep_all task s xs ys here others all t h e =
         elim (cases_eq t task) [
-          | inl same ↦
-              let at : spot_at (with_spot i task s) t ≡ s = ap (spot_at (with_spot i task s)) same ∙ spot_same i task s (spot_room task (omega arith)) in
-              ap (λ n. queued f n ys) same ∙ here (sym at ∙ e)
-          | inr ne ↦ others t ne (all t h (sym (spot_other i task t s ne) ∙ e))
+          | inl same ↦ (let at = spot_same i task s (spot_room task (omega arith)) in grind arith)
+          | inr ne ↦ (let at = spot_other i task t s ne in grind (arith, others t ne, all t h))
         ]
 
     -- with an entry more for the spot, and with the first entry less for another
     put_all : (b : E → E → Bool) (x : E) (xs : List E) → Covers i xs → Covers (with_spot i (f x) v) (insert_sorted b x xs)
     put_all b x xs =
-        keep_all (f x) v xs (insert_sorted b x xs) (λ _. queued_insert b f (f x) x xs ∙ or_left _ (queued f (f x) xs) (eq-eqb (f x) (f x) refl))
-        (λ t _ q. queued_insert b f t x xs ∙ or_right (eqb (f x) t) _ q)
+        keep_all (f x) v xs (insert_sorted b x xs) (λ _. let among = queued_insert b f (f x) x xs in grind (arith, nat_tests))
+        (λ t _ q. let among = queued_insert b f t x xs in grind arith)
 
     take_all : (s : Spot) (x : E) (xs : List E) → (s ≡ v → ⊥) → Covers i (x ∷ xs) → Covers (with_spot i (f x) s) xs
     take_all s x xs not =
         keep_all (f x) s (x ∷ xs) xs (λ e. absurd (not e))
-        (λ t ne q. elim (or_cases (eqb (f x) t) _ q) [ inl e ↦ absurd (ne (sym (eqb-true (f x) t e))) | inr r ↦ r ])
+        (λ t ne q. grind (arith, nat_tests))
 
     stay_all : (task : ℕ) (s : Spot) (xs : List E) → (s ≡ v → ⊥) → Covers i xs → Covers (with_spot i task s) xs
     stay_all task s xs not = keep_all task s xs xs (λ e. absurd (not e)) (λ t _ q. q)
 
-  depth_room : i.depth ≤ length i.stack
-  depth_room = omega (arith, (tall k i gh).0, (tall k i gh).2)
-
-  module _ (ws : List Waiting) (rs : List Released) (wc rc : ℕ) (li : Listed k i ws rs wc rc) where
+  module _ {ws : List Waiting} {rs : List Released} {wc rc : ℕ} (li : Listed k i ws rs wc rc) where
     pub releases_few : i.counts.releases ≤ 32 * (latest + largest)
     releases_few =
         let a = sum-most (λ (w : Waiting). w.release) (latest + largest) ws (All-weaker (WaitsIn k i) (λ w. w.release ≤ latest + largest) (λ w h. h.2) ws li.waiting) in
         let b = sum-most (λ (e : Released). next_of (table_of k) e.task e.deadline) (latest + largest) rs
         (All-weaker (ReleasedIn k i) (λ e. next_of (table_of k) e.task e.deadline ≤ latest + largest) (λ e h. next_near e.task e.deadline h.0 h.2) rs li.released) in
         let c = sum-most (λ (j : Job). next_of (table_of k) j.task j.deadline) (latest + largest) (jobs_of i.stack i.depth)
-        (jobs_each (λ j. next_of (table_of k) j.task j.deadline ≤ latest + largest) i.stack i.depth depth_room
-        (λ p h. next_near (job_at i p).task (job_at i p).deadline (known k i gh p h).0 (known k i gh p h).1)) in
-        let d = jobs_length i.stack i.depth depth_room in
+        (jobs_each (λ j. next_of (table_of k) j.task j.deadline ≤ latest + largest) i.stack i.depth (high gh)
+        (λ p h. next_near (job_at i p).task (job_at i p).deadline (gh.known p h).0 (gh.known p h).1)) in
+        let d = jobs_length i.stack i.depth (high gh) in
         omega (arith, a, b, c, d, li.few, li.places, k.copied.2)
 
     -- the job at the top ends: its task waits for its next release
     module _ (some : 0 < i.depth) where
       top_stands : stands_at (spot_at i (top_of i).task) (i.depth - 1) ≡ true
-      top_stands = noted k i gh (i.depth - 1) (omega arith)
+      top_stands = gh.noted (i.depth - 1) (omega arith)
 
       top_known : (top_of i).task < k.sizes.tasks
-      top_known = (known k i gh (i.depth - 1) (omega arith)).0
+      top_known = (gh.known (i.depth - 1) (omega arith)).0
 
       top_soon : (top_of i).deadline ≤ latest
-      top_soon = (known k i gh (i.depth - 1) (omega arith)).1
+      top_soon = (gh.known (i.depth - 1) (omega arith)).1
 
       abbrev again : Waiting
-      again = record { release = next_of (table_of k) (top_of i).task (top_of i).deadline; task = (top_of i).task }
+      again = next_wait (table_of k) (top_of i).task (top_of i).deadline
 
       end_apart : AllByRecursion (λ w. w.task ≢ (top_of i).task) ws
       end_apart = others_waiting k i (top_of i).task ws (stacked_waits (spot_at i (top_of i).task) (i.depth - 1) top_stands) li.waiting
@@ -136,7 +136,7 @@ module _ (k : Records) (i : Inner) (gh : Steady k i) where
           → Listed k (popped (with_counts i c)) (insert_sorted waiting_before again ws) rs wc rc
       end_listed c re fe =
           let sum = sum-insert (λ (w : Waiting). w.release) waiting_before again ws in
-          let jobs = ap (sum_of (λ (j : Job). next_of (table_of k) j.task j.deadline)) (jobs_top i.stack i.depth some depth_room) in
+          let jobs = ap (sum_of (λ (j : Job). next_of (table_of k) j.task j.deadline)) (jobs_top i.stack i.depth some (high gh)) in
           record {
             waiting_room = li.waiting_room;
             released_room = li.released_room;
@@ -158,10 +158,9 @@ module _ (k : Records) (i : Inner) (gh : Steady k i) where
         → c.finishes ≡ i.counts.finishes → c.expiries ≡ i.counts.expiries → Listed k (with_counts (with_top i r) c) ws rs wc rc
     top_listed r c some own due re fi ex =
         let f : Job → ℕ = λ j. next_of (table_of k) j.task j.deadline in
-        let old = ap (sum_of f) (jobs_top i.stack i.depth some depth_room) in
-        let new = ap (sum_of f) (jobs_set i.stack i.depth r some depth_room) in
-        let next : next_of (table_of k) r.task r.deadline ≡ next_of (table_of k) (top_of i).task (top_of i).deadline =
-        ap (λ t. next_of (table_of k) t r.deadline) own ∙ ap (next_of (table_of k) (top_of i).task) due in
+        let old = ap (sum_of f) (jobs_top i.stack i.depth some (high gh)) in
+        let new = ap (sum_of f) (jobs_set i.stack i.depth r some (high gh)) in
+        let next : next_of (table_of k) r.task r.deadline ≡ next_of (table_of k) (top_of i).task (top_of i).deadline = cc in
         record {
           waiting_room = li.waiting_room;
           released_room = li.released_room;
@@ -175,7 +174,7 @@ module _ (k : Records) (i : Inner) (gh : Steady k i) where
         }
 
   -- the first released job
-  module _ (ws : List Waiting) (e : Released) (es : List Released) (wc rc : ℕ) (li : Listed k i ws (e ∷ es) wc rc) (single : queued (λ (x : Released). x.task) e.task es ≡ false) where
+  module _ {ws : List Waiting} {e : Released} {es : List Released} {wc rc : ℕ} (li : Listed k i ws (e ∷ es) wc rc) (single : queued (λ (x : Released). x.task) e.task es ≡ false) where
     rest_apart : AllByRecursion (λ x. x.task ≢ e.task) es
     rest_apart = not_of (λ x. x.task) e.task es single
 
@@ -189,8 +188,8 @@ module _ (k : Records) (i : Inner) (gh : Steady k i) where
     pub push_listed : Listed k (pushed i e.task e.deadline) ws es wc rc
     push_listed =
         let jobs = ap (sum_of (λ (j : Job). next_of (table_of k) j.task j.deadline))
-        (jobs_push i.stack i.depth (record { task = e.task; deadline = e.deadline; count = 0; opened = (job_at i i.depth).opened }) (omega (arith, push_room, (tall k i gh).0))) in
-        let on = eq-eqb i.depth i.depth refl in
+        (jobs_push i.stack i.depth (record { task = e.task; deadline = e.deadline; count = 0; opened = (job_at i i.depth).opened }) (omega (arith, push_room, gh.tall.0))) in
+        let on : stands_at (Stacked i.depth) i.depth ≡ true = grind (arith, nat_tests) in
         record {
           waiting_room = li.waiting_room;
           released_room = li.released_room;
@@ -205,7 +204,7 @@ module _ (k : Records) (i : Inner) (gh : Steady k i) where
 
     -- or lapses
     abbrev waits : Waiting
-    waits = record { release = next_of (table_of k) e.task e.deadline; task = e.task }
+    waits = next_wait (table_of k) e.task e.deadline
 
     pub lapse_put : inserted waiting_order wc waits ws ≡ insert_sorted waiting_before waits ws
     lapse_put =
@@ -231,7 +230,7 @@ module _ (k : Records) (i : Inner) (gh : Steady k i) where
         }
 
   -- the first waiting task is released
-  module _ (w : Waiting) (ws : List Waiting) (rs : List Released) (wc rc : ℕ) (li : Listed k i (w ∷ ws) rs wc rc) (single : queued (λ (x : Waiting). x.task) w.task ws ≡ false) (now : w.release ≤ last_instant) where
+  module _ {w : Waiting} {ws : List Waiting} {rs : List Released} {wc rc : ℕ} (li : Listed k i (w ∷ ws) rs wc rc) (single : queued (λ (x : Waiting). x.task) w.task ws ≡ false) (now : w.release ≤ last_instant) where
     abbrev out : Released
     out = release_of (table_of k) w
 
@@ -264,14 +263,3 @@ module _ (k : Records) (i : Inner) (gh : Steady k i) where
           few = omega (arith, li.few, sum, t.works, t.early, t.cyclic);
           jobs = omega (arith, li.jobs, length-insert released_before out rs);
         }
-
--- the same of equal fields and lists
-pub listed_as :
-    {k : Records} {i i' : Inner} {ws ws' : List Waiting} {rs rs' : List Released} {wc wc' rc rc' : ℕ}
-    → i' ≡ i → ws' ≡ ws → rs' ≡ rs → wc' ≡ wc → rc' ≡ rc → Listed k i ws rs wc rc → Listed k i' ws' rs' wc' rc'
-listed_as {k} {i} {i'} {ws} {ws'} {rs} {rs'} {wc} {wc'} {rc} {rc'} a b c d e li =
-    subst (λ (x : Inner). Listed k x ws' rs' wc' rc') (sym a)
-    (subst (λ (x : List Waiting). Listed k i x rs' wc' rc') (sym b)
-    (subst (λ (x : List Released). Listed k i ws x wc' rc') (sym c)
-    (subst (λ x. Listed k i ws rs x rc') (sym d)
-    (subst (λ x. Listed k i ws rs wc x) (sym e) li))))

@@ -1,6 +1,7 @@
 -- What holds of the core's own fields is kept by each of its inner moves.
-use Rattle.std.proofs.Common.{◌≡◌, ℕ, ◌+◌, ◌-◌, ◌<◌, ◌≤◌, true, false, ltb, ◌≢◌, List, length, get_or, set, sym, refl, ap, ◌∙◌, subst, inl, inr, arith, length-set}
-use Rattle.std.proofs.lemmas.Bool.{cases_eq, eq-eqb, eqb-true, false≢true, and_parts, and_from, ltb-true, lt-ltb}
+use Rattle.std.proofs.Common.{◌≡◌, ℕ, ◌+◌, ◌-◌, ◌<◌, ◌≤◌, true, false, ◌≢◌, List, length, slice_index_or, slice_set, sym, refl, ap, ◌∙◌, inl, inr, arith, length-set}
+use Rattle.std.proofs.lemmas.Bool.{cases_eq}
+use Rattle.std.proofs.lemmas.Bool.Decides.{nat_tests}
 use Rattle.std.proofs.lemmas.List.{get_or-set_same, get_or-set_other}
 use Rattle.table.specs.Limits.{most_tasks, deepest}
 use Rattle.machine.specs.Step.{most_entries}
@@ -12,18 +13,15 @@ use Rattle.scheduler.specs.declared.stack.Spot.TheVariants.{Waiting, Released, S
 use Rattle.scheduler.specs.declared.question.Counts.{Counts}
 use Rattle.scheduler.specs.declared.stack.Inner.{Inner}
 use Rattle.scheduler.specs.View.{table_of, opens_of, jobs_of}
-use Rattle.scheduler.specs.Steady.{Tall, Known, Noted, Placed, Balanced, Steady, no_record, job_at, spot_at, stands_at, stood_by, latest, chained}
+use Rattle.scheduler.specs.Steady.{Placed, Balanced, Steady, no_record, job_at, spot_at, stands_at, stood_by, latest, chained}
 use Rattle.scheduler.specs.Moves.{with_counts, with_spot, with_top, top_of, pushed, popped}
 use Rattle.scheduler.proofs.Jobs.{jobs_top, jobs_push, jobs_set, opens_none, opens_length}
 
 -- a spot that stands for a place of the stack
-pub stands_is : (s : Spot) (p : ℕ) → stands_at s p ≡ true → s ≡ Stacked p
-stands_is Waiting p e = absurd (false≢true e)
-stands_is Released p e = absurd (false≢true e)
-stands_is (Stacked q) p e = ap Stacked (eqb-true q p e)
-
-pub is_stands : (s : Spot) (p : ℕ) → s ≡ Stacked p → stands_at s p ≡ true
-is_stands s p e = ap (λ x. stands_at x p) e ∙ eq-eqb p p refl
+stands_is : (s : Spot) (p : ℕ) → stands_at s p ≡ true → s ≡ Stacked p
+stands_is Waiting p e = grind arith
+stands_is Released p e = grind arith
+stands_is (Stacked q) p e = grind (arith, nat_tests)
 
 -- a spot that is not on the stack
 pub record Off (s : Spot) : Type 0 where
@@ -44,15 +42,15 @@ module _ (i : Inner) where
   spot_other task other s h = get_or-set_other i.spots task other s Waiting h
 
   -- two tasks with different spots are two
-  pub apart : (a b : ℕ) (p : ℕ) → Off (spot_at i a) → stands_at (spot_at i b) p ≡ true → b ≢ a
-  apart a b p o s e = false≢true (sym (o.off p) ∙ ap (λ n. stands_at (spot_at i n) p) (sym e) ∙ s)
+  apart : (a b : ℕ) (p : ℕ) → Off (spot_at i a) → stands_at (spot_at i b) p ≡ true → b ≢ a
+  apart a b p o s e = let off = o.off p in grind arith
 
-  pub apart_places : (a b : ℕ) (p q : ℕ) → p ≢ q → stands_at (spot_at i a) p ≡ true → stands_at (spot_at i b) q ≡ true → b ≢ a
+  apart_places : (a b : ℕ) (p q : ℕ) → p ≢ q → stands_at (spot_at i a) p ≡ true → stands_at (spot_at i b) q ≡ true → b ≢ a
   apart_places a b p q ne s t e =
       let x = stands_is (spot_at i a) p s in
       let y = stands_is (spot_at i b) q t in
-      let z = ap (λ n. spot_at i n) e in
-      ne (eqb-true p q (sym (ap (λ v. stands_at v q) x) ∙ ap (λ v. stands_at v q) (sym z) ∙ t))
+      let same : Stacked p ≡ Stacked q = cc in
+      grind arith
 
 module _ (i j : Inner) where
   -- a task keeps its place where its jobs stay
@@ -61,43 +59,29 @@ module _ (i j : Inner) where
       → stood_by j t s ≡ true
   stood_kept t Waiting stay e = refl
   stood_kept t Released stay e = refl
-  stood_kept t (Stacked p) stay e =
-      let parts = and_parts (ltb p i.depth) _ e in
-      let kept = stay p (ltb-true p i.depth parts.0) (eqb-true _ t parts.1) in
-      and_from (ltb p j.depth) _ (lt-ltb p j.depth kept.0) (eq-eqb _ t kept.1)
+  stood_kept t (Stacked p) stay e = let kept = stay p in grind (arith, nat_tests)
 
   -- one task's spot is noted, and the jobs of the others stay
   placed_kept :
-      (task : ℕ) (s : Spot) → j.spots ≡ set i.spots task s → length i.spots ≡ most_tasks → stood_by j task s ≡ true
+      (task : ℕ) (s : Spot) → j.spots ≡ slice_set i.spots task s → length i.spots ≡ most_tasks → stood_by j task s ≡ true
       → ((p : ℕ) → p < i.depth → (job_at i p).task ≢ task → (p < j.depth) × ((job_at j p).task ≡ (job_at i p).task)) → Placed i → Placed j
   placed_kept task s noted long here stay old t h =
-      let now : spot_at j t ≡ spot_at (with_spot i task s) t = ap (λ (l : List Spot). get_or l t Waiting) noted in
+      let now : spot_at j t ≡ spot_at (with_spot i task s) t = ap (λ (l : List Spot). slice_index_or l t Waiting) noted in
       elim (cases_eq t task) [
-        | inl e ↦
-            ap (stood_by j t) (now ∙ ap (spot_at (with_spot i task s)) e ∙ spot_same i task s (omega arith)) ∙ ap (λ n. stood_by j n s) e ∙ here
+        | inl e ↦ (let at = spot_same i task s (omega arith) in grind arith)
         | inr ne ↦
-            ap (stood_by j t) (now ∙ spot_other i task t s ne)
-            ∙ stood_kept t (spot_at i t) (λ p lt own. let kept = stay p lt (λ e. ne (sym own ∙ e)) in (kept.0, kept.1 ∙ own)) (old t h)
+            (let at = spot_other i task t s ne in
+            let kept = stood_kept t (spot_at i t) (λ p lt own. let kept = stay p lt (λ e. ne (sym own ∙ e)) in (kept.0, kept.1 ∙ own)) (old t h) in
+            grind arith)
       ]
 
-module _ (k : Records) (i : Inner) (gh : Steady k i) where
-  abbrev pub tall : Tall i
-  tall = gh.tall
+module _ {k : Records} {i : Inner} (gh : Steady k i) where
+  -- the stack is no higher than its array, and each job's open sections fit theirs
+  pub high : i.depth ≤ length i.stack
+  high = omega (arith, gh.tall.0, gh.tall.2)
 
-  abbrev pub known : Known k i
-  known = gh.known
-
-  abbrev pub noted : Noted i
-  noted = gh.noted
-
-  abbrev pub placed : Placed i
-  placed = gh.placed
-
-  abbrev pub balanced : Balanced i
-  balanced = gh.balanced
-
-  pub task_room : (p : ℕ) → p < i.depth → (job_at i p).task < length i.spots
-  task_room p h = omega (arith, (known p h).0, k.copied.2, tall.1)
+  pub wide : (p : ℕ) → p < i.depth → (job_at i p).count ≤ length (job_at i p).opened
+  wide p h = omega (arith, (gh.known p h).2, gh.tall.3 p (omega (arith, gh.tall.2)))
 
   -- a job more on the stack
   module _ (task deadline : ℕ) (room : i.depth < most_tasks) (in_table : task < k.sizes.tasks) (soon : deadline ≤ latest) (off : Off (spot_at i task)) where
@@ -109,47 +93,39 @@ module _ (k : Records) (i : Inner) (gh : Steady k i) where
 
     push_top : job_at (pushed i task deadline) i.depth ≡ fresh
     unfolding fresh
-    push_top = get_or-set_same i.stack i.depth _ no_record (omega (arith, tall.0))
+    push_top = get_or-set_same i.stack i.depth _ no_record (omega (arith, gh.tall.0))
 
     -- what holds of each job below and of the new one holds of each
     pushed_all : (P : ℕ → StackRecord → Type 0) → ((p : ℕ) → p < i.depth → P p (job_at i p)) → P i.depth fresh → (p : ℕ) → p < i.depth + 1 → P p (job_at (pushed i task deadline) p)
     pushed_all P below here p h =
-        elim (cases_eq p i.depth) [
-          | inl e ↦ subst (λ n. P n (job_at (pushed i task deadline) n)) (sym e) (subst (P i.depth) (sym push_top) here)
-          | inr ne ↦ subst (P p) (sym (push_at p ne)) (below p (omega arith))
-        ]
+        elim (cases_eq p i.depth) [ inl e ↦ rw (e, push_top) here | inr ne ↦ rw (push_at p ne) (below p (omega arith)) ]
 
     push_stood : stood_by (pushed i task deadline) task (Stacked i.depth) ≡ true
     unfolding fresh
-    push_stood =
-        and_from (ltb i.depth (i.depth + 1)) _ (lt-ltb i.depth (i.depth + 1) (omega arith)) (eq-eqb _ task (ap (λ (r : StackRecord). r.task) push_top))
+    push_stood = let own = ap (λ (r : StackRecord). r.task) push_top in grind (arith, nat_tests)
 
     push_balance : Balanced (pushed i task deadline)
     push_balance =
-        let jobs = ap open_count (jobs_push i.stack i.depth (record { task = task; deadline = deadline; count = 0; opened = (job_at i i.depth).opened }) (omega (arith, tall.0))) in
+        let jobs = ap open_count (jobs_push i.stack i.depth (record { task = task; deadline = deadline; count = 0; opened = (job_at i i.depth).opened }) (omega (arith, gh.tall.0))) in
         let none = ap length (opens_none (job_at i i.depth).opened) in
-        (omega (arith, balanced.0, jobs, none), balanced.1)
+        (omega (arith, gh.balanced.0, jobs, none), gh.balanced.1)
 
     pub push_ghosts : Steady k (pushed i task deadline)
     unfolding fresh
     push_ghosts = record {
       tall = (
-        length-set i.stack i.depth _ ∙ tall.0,
-        length-set i.spots task _ ∙ tall.1,
+        length-set i.stack i.depth _ ∙ gh.tall.0,
+        length-set i.spots task _ ∙ gh.tall.1,
         omega arith,
-        λ p h.
-            elim (cases_eq p i.depth) [
-              | inl e ↦ subst (λ n. length (job_at (pushed i task deadline) n).opened ≡ deepest) (sym e) (ap (λ (r : StackRecord). length r.opened) push_top ∙ tall.3 i.depth room)
-              | inr ne ↦ ap (λ (r : StackRecord). length r.opened) (push_at p ne) ∙ tall.3 p h
-            ],
+        λ p h. elim (cases_eq p i.depth) [ inl e ↦ rw (e, push_top) (gh.tall.3 i.depth room) | inr ne ↦ rw (push_at p ne) (gh.tall.3 p h) ],
       );
-      known = pushed_all (λ p r. (r.task < k.sizes.tasks) × (r.deadline ≤ latest) × (r.count ≤ deepest)) known (in_table, soon, omega arith);
+      known = pushed_all (λ p r. (r.task < k.sizes.tasks) × (r.deadline ≤ latest) × (r.count ≤ deepest)) gh.known (in_table, soon, omega arith);
       nested = pushed_all (λ p r. chained (table_of k) (opens_of r.opened r.count) ≡ true) gh.nested (ap (chained (table_of k)) (opens_none (job_at i i.depth).opened));
       noted = pushed_all (λ p r. stands_at (spot_at (pushed i task deadline) r.task) p ≡ true)
-          (λ p h. ap (λ x. stands_at x p) (spot_other i task (job_at i p).task (Stacked i.depth) (apart i task (job_at i p).task p off (noted p h))) ∙ noted p h)
-          (is_stands _ i.depth (spot_same i task (Stacked i.depth) (omega (arith, in_table, k.copied.2, tall.1))));
-      placed = placed_kept i (pushed i task deadline) task (Stacked i.depth) refl tall.1 push_stood
-          (λ p h _. (omega arith, ap (λ (r : StackRecord). r.task) (push_at p (omega arith)))) placed;
+          (λ p h. ap (λ x. stands_at x p) (spot_other i task (job_at i p).task (Stacked i.depth) (apart i task (job_at i p).task p off (gh.noted p h))) ∙ gh.noted p h)
+          (rw (spot_same i task (Stacked i.depth) (omega (arith, in_table, k.copied.2, gh.tall.1))) (grind (arith, nat_tests)));
+      placed = placed_kept i (pushed i task deadline) task (Stacked i.depth) refl gh.tall.1 push_stood
+          (λ p h _. (omega arith, ap (λ (r : StackRecord). r.task) (push_at p (omega arith)))) gh.placed;
       balanced = push_balance;
     }
 
@@ -158,12 +134,12 @@ module _ (k : Records) (i : Inner) (gh : Steady k i) where
       (task : ℕ) (s : Spot) (c : Counts) → Off (spot_at i task) → stood_by i task s ≡ true → c.entries ≡ i.counts.entries → c.leaves ≡ i.counts.leaves
       → c.taken ≡ i.counts.taken → task < most_tasks → Steady k (with_spot (with_counts i c) task s)
   note_ghosts task s c off stood en le ta room = record {
-    tall = (tall.0, length-set i.spots task s ∙ tall.1, tall.2, tall.3);
-    known = known;
+    tall = (gh.tall.0, length-set i.spots task s ∙ gh.tall.1, gh.tall.2, gh.tall.3);
+    known = gh.known;
     nested = gh.nested;
-    noted = (λ p h. ap (λ x. stands_at x p) (spot_other i task (job_at i p).task s (apart i task (job_at i p).task p off (noted p h))) ∙ noted p h);
-    placed = placed_kept i (with_spot (with_counts i c) task s) task s refl tall.1 (stood_as s stood) (λ p h _. (h, refl)) placed;
-    balanced = (omega (arith, balanced.0, en, le, ta), omega (arith, balanced.1, en));
+    noted = (λ p h. ap (λ x. stands_at x p) (spot_other i task (job_at i p).task s (apart i task (job_at i p).task p off (gh.noted p h))) ∙ gh.noted p h);
+    placed = placed_kept i (with_spot (with_counts i c) task s) task s refl gh.tall.1 (stood_as s stood) (λ p h _. (h, refl)) gh.placed;
+    balanced = (omega (arith, gh.balanced.0, en, le, ta), omega (arith, gh.balanced.1, en));
   }
     where
       stood_as : (s : Spot) → stood_by i task s ≡ true → stood_by (with_spot (with_counts i c) task s) task s ≡ true
@@ -174,9 +150,8 @@ module _ (k : Records) (i : Inner) (gh : Steady k i) where
   -- how many sections are open on a stack that is not empty
   pub top_open : 0 < i.depth → open_count (jobs_of i.stack i.depth) ≡ (top_of i).count + open_count (jobs_of i.stack (i.depth - 1))
   top_open some =
-      let at : i.depth - 1 < i.depth = omega arith in
-      let jobs = ap open_count (jobs_top i.stack i.depth some (omega (arith, tall.0, tall.2))) in
-      let long = opens_length (top_of i).opened (top_of i).count (omega (arith, (known (i.depth - 1) at).2, tall.3 (i.depth - 1) (omega (arith, tall.2)))) in
+      let jobs = ap open_count (jobs_top i.stack i.depth some high) in
+      let long = opens_length (top_of i).opened (top_of i).count (wide (i.depth - 1) (omega arith)) in
       omega (arith, jobs, long)
 
   -- the top job ends, and its open sections are taken back
@@ -185,21 +160,17 @@ module _ (k : Records) (i : Inner) (gh : Steady k i) where
       → Steady k (popped (with_counts i c))
   pop_ghosts c some en le ta =
       let last : i.depth - 1 < i.depth = omega arith in record {
-        tall = (tall.0, length-set i.spots (top_of i).task Waiting ∙ tall.1, omega (arith, tall.2), tall.3);
-        known = (λ p h. known p (omega arith));
+        tall = (gh.tall.0, length-set i.spots (top_of i).task Waiting ∙ gh.tall.1, omega (arith, gh.tall.2), gh.tall.3);
+        known = (λ p h. gh.known p (omega arith));
         nested = (λ p h. gh.nested p (omega arith));
         noted = (λ p h.
             let lt : p < i.depth = omega arith in
             let ne : i.depth - 1 ≢ p = omega arith in
             ap (λ x. stands_at x p) (spot_other i (top_of i).task (job_at i p).task Waiting
-            (apart_places i (top_of i).task (job_at i p).task (i.depth - 1) p ne (noted (i.depth - 1) last) (noted p lt))) ∙ noted p lt);
-        placed = placed_kept i (popped (with_counts i c)) (top_of i).task Waiting refl tall.1 refl
-            (λ p h other.
-            elim (cases_eq p (i.depth - 1)) [
-              | inl e ↦ absurd (other (ap (λ n. (job_at i n).task) e))
-              | inr ne ↦ (omega arith, refl)
-            ]) placed;
-        balanced = (omega (arith, balanced.0, top_open some), omega (arith, balanced.1));
+            (apart_places i (top_of i).task (job_at i p).task (i.depth - 1) p ne (gh.noted (i.depth - 1) last) (gh.noted p lt))) ∙ gh.noted p lt);
+        placed = placed_kept i (popped (with_counts i c)) (top_of i).task Waiting refl gh.tall.1 refl
+            (λ p h other. (grind arith, refl)) gh.placed;
+        balanced = (omega (arith, gh.balanced.0, top_open some), omega (arith, gh.balanced.1));
       }
 
   -- the top job with other open sections
@@ -208,39 +179,32 @@ module _ (k : Records) (i : Inner) (gh : Steady k i) where
     top_at p ne = get_or-set_other i.stack (i.depth - 1) p r no_record ne
 
     top_here : job_at (with_top i r) (i.depth - 1) ≡ r
-    top_here = get_or-set_same i.stack (i.depth - 1) r no_record (omega (arith, tall.0, tall.2))
+    top_here = get_or-set_same i.stack (i.depth - 1) r no_record (omega (arith, high))
 
     top_all : (P : ℕ → StackRecord → Type 0) → ((p : ℕ) → p < i.depth → P p (job_at i p)) → P (i.depth - 1) r → (p : ℕ) → p < i.depth → P p (job_at (with_top i r) p)
     top_all P others here p h =
-        elim (cases_eq p (i.depth - 1)) [
-          | inl e ↦ subst (λ n. P n (job_at (with_top i r) n)) (sym e) (subst (P (i.depth - 1)) (sym top_here) here)
-          | inr ne ↦ subst (P p) (sym (top_at p ne)) (others p h)
-        ]
+        elim (cases_eq p (i.depth - 1)) [ inl e ↦ rw (e, top_here) here | inr ne ↦ rw (top_at p ne) (others p h) ]
 
     pub top_ghosts :
         (c : Counts) → r.task ≡ (top_of i).task → r.deadline ≡ (top_of i).deadline → r.count ≤ deepest → length r.opened ≡ deepest
         → chained (table_of k) (opens_of r.opened r.count) ≡ true
         → c.entries + (top_of i).count + i.counts.leaves + i.counts.taken ≡ i.counts.entries + r.count + c.leaves + c.taken → c.entries ≤ most_entries
         → Steady k (with_counts (with_top i r) c)
-    top_ghosts c own due few wide nest even fine =
+    top_ghosts c own due few full nest even fine =
         let last : i.depth - 1 < i.depth = omega arith in
         let long = opens_length r.opened r.count (omega arith) in
-        let jobs = ap open_count (jobs_set i.stack i.depth r some (omega (arith, tall.0, tall.2))) in record {
+        let jobs = ap open_count (jobs_set i.stack i.depth r some (omega (arith, gh.tall.0, gh.tall.2))) in record {
           tall = (
-            length-set i.stack (i.depth - 1) r ∙ tall.0,
-            tall.1,
-            tall.2,
-            λ p h.
-                elim (cases_eq p (i.depth - 1)) [
-                  | inl e ↦ subst (λ n. length (job_at (with_top i r) n).opened ≡ deepest) (sym e) (ap (λ (q : StackRecord). length q.opened) top_here ∙ wide)
-                  | inr ne ↦ ap (λ (q : StackRecord). length q.opened) (top_at p ne) ∙ tall.3 p h
-                ],
+            length-set i.stack (i.depth - 1) r ∙ gh.tall.0,
+            gh.tall.1,
+            gh.tall.2,
+            λ p h. elim (cases_eq p (i.depth - 1)) [ inl e ↦ rw (e, top_here) full | inr ne ↦ rw (top_at p ne) (gh.tall.3 p h) ],
           );
-          known = top_all (λ p q. (q.task < k.sizes.tasks) × (q.deadline ≤ latest) × (q.count ≤ deepest)) known
-              (omega (arith, own, (known (i.depth - 1) last).0), omega (arith, due, (known (i.depth - 1) last).1), few);
+          known = top_all (λ p q. (q.task < k.sizes.tasks) × (q.deadline ≤ latest) × (q.count ≤ deepest)) gh.known
+              (omega (arith, own, (gh.known (i.depth - 1) last).0), omega (arith, due, (gh.known (i.depth - 1) last).1), few);
           nested = top_all (λ p q. chained (table_of k) (opens_of q.opened q.count) ≡ true) gh.nested nest;
-          noted = top_all (λ p q. stands_at (spot_at i q.task) p ≡ true) noted (ap (λ n. stands_at (spot_at i n) (i.depth - 1)) own ∙ noted (i.depth - 1) last);
+          noted = top_all (λ p q. stands_at (spot_at i q.task) p ≡ true) gh.noted (ap (λ n. stands_at (spot_at i n) (i.depth - 1)) own ∙ gh.noted (i.depth - 1) last);
           placed = (λ t h. stood_kept i (with_counts (with_top i r) c) t (spot_at i t)
-              (λ p lt own_task. (lt, top_all (λ n q. q.task ≡ (job_at i n).task) (λ _ _. refl) own p lt ∙ own_task)) (placed t h));
-          balanced = (omega (arith, balanced.0, top_open some, jobs, long), fine);
+              (λ p lt own_task. (lt, top_all (λ n q. q.task ≡ (job_at i n).task) (λ _ _. refl) own p lt ∙ own_task)) (gh.placed t h));
+          balanced = (omega (arith, gh.balanced.0, top_open some, jobs, long), fine);
         }

@@ -5,6 +5,7 @@ pub mod Queues
 pub mod Fits
 pub mod Picks
 pub mod Events
+pub mod Steps
 pub mod Calls
 pub mod Starts
 pub mod Grants

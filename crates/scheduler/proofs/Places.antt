@@ -1,6 +1,6 @@
 -- The place that is noted of a task is where it is: in one of the two lists, or on the stack.
-use Rattle.std.proofs.Common.{◌≡◌, ℕ, ◌<◌, ◌≤◌, Bool, true, false, cond, eqb, ltb, ◌≢◌, List, Some, None, Option, sym, refl, ap, ◌∙◌, inl, inr, arith}
-use Rattle.std.proofs.lemmas.Bool.{cond-true, cond-false, cases_lt, lt-ltb, le-ltb, eq-eqb, ne_eqb}
+use Rattle.std.proofs.Common.{◌≡◌, ℕ, ◌<◌, ◌≤◌, Bool, false, if◌then◌else◌, ◌==◌, ◌≢◌, List, Some, None, Option, sym, arith}
+use Rattle.std.proofs.lemmas.Bool.Decides.{nat_tests}
 use Rattle.std.proofs.ByRecursion.{All-weaker}
 use Rattle.table.specs.Limits.{most_tasks}
 use Rattle.queue.specs.declared.waiting.Waiting.{Waiting as WaitingEntry}
@@ -12,64 +12,55 @@ use Rattle.scheduler.specs.declared.stack.Spot.TheVariants.{Waiting, Released, S
 use Rattle.scheduler.specs.declared.stack.Inner.{Inner}
 use Rattle.scheduler.specs.declared.question.Place.{Place}
 use Rattle.scheduler.specs.declared.question.Place.TheVariants.{Waiting as IsWaiting, Released as IsReleased, Stacked as IsStacked}
-use Rattle.scheduler.specs.View.{jobs_of, state_of}
-use Rattle.scheduler.specs.Steady.{job_at, spot_at, stands_at, Steady}
-use Rattle.scheduler.specs.Moves.{place_from, place_in}
+use Rattle.scheduler.specs.View.{jobs_of}
+use Rattle.scheduler.specs.Steady.{spot_at, Steady}
+use Rattle.scheduler.specs.Moves.{place_from}
 use Rattle.scheduler.specs.Fitted.{WaitsIn, ReleasedIn, Listed}
-use Rattle.scheduler.specs.Calls.{stacked, place_of}
-use Rattle.scheduler.proofs.Ghosts.{known}
+use Rattle.scheduler.specs.Calls.{stacked}
+use Rattle.scheduler.proofs.Ghosts.{high}
 use Rattle.scheduler.proofs.Queues.{none_of}
-use Rattle.scheduler.proofs.Fits.{released_waits, stacked_waits, stacked_released, others_waiting, others_released}
-use Rattle.scheduler.proofs.Events.{high}
-use Rattle.scheduler.proofs.Grants.{no_jobs, one_job, other_job, stood_at, stood_task}
+use Rattle.scheduler.proofs.Fits.{released_waits, others_waiting, others_released}
+use Rattle.scheduler.proofs.Grants.{no_jobs, one_job, other_job, stood_here}
 
-module _ (k : Records) (i : Inner) (gh : Steady k i) (ws : List WaitingEntry) (rs : List ReleasedEntry) (wc rc : ℕ) (li : Listed k i ws rs wc rc) (task : ℕ) where
+module _ {k : Records} {i : Inner} (gh : Steady k i) {ws : List WaitingEntry} {rs : List ReleasedEntry} {wc rc : ℕ} (li : Listed k i ws rs wc rc) (task : ℕ) where
   abbrev waits : Bool
   waits = queued (λ (w : WaitingEntry). w.task) task ws
 
-  abbrev is_out_lem : Bool
-  is_out_lem = queued (λ (e : ReleasedEntry). e.task) task rs
+  abbrev is_out : Bool
+  is_out = queued (λ (e : ReleasedEntry). e.task) task rs
 
   abbrev stands : Bool
   stands = stacked task (jobs_of i.stack i.depth)
 
-  abbrev chosen : Bool → Bool → Bool → Option Place
-  chosen a b c = cond a (Some IsWaiting) (cond b (Some IsReleased) (cond c (Some IsStacked) None))
+  abbrev chosen : Option Place
+  chosen = if waits then Some IsWaiting else if is_out then Some IsReleased else if stands then Some IsStacked else None
 
   -- a task with another spot is not in a list
   not_waiting : (spot_at i task ≡ Waiting → ⊥) → waits ≡ false
   not_waiting other = none_of (λ w. w.task) task ws (others_waiting k i task ws other li.waiting)
 
-  not_released : (spot_at i task ≡ Released → ⊥) → is_out_lem ≡ false
+  not_released : (spot_at i task ≡ Released → ⊥) → is_out ≡ false
   not_released other = none_of (λ e. e.task) task rs (others_released k i task rs other li.released)
 
   -- a task of the table, by its spot
-  place_by : task < k.sizes.tasks → (s : Spot) → s ≡ spot_at i task → Some (place_from s) ≡ chosen waits is_out_lem stands
-  place_by lt Waiting is = ap (λ b. chosen b is_out_lem stands) (sym (li.waiting_all task lt (sym is)))
+  pub place_by : task < k.sizes.tasks → (s : Spot) → s ≡ spot_at i task → Some (place_from s) ≡ chosen
+  place_by lt Waiting is = let in-it = li.waiting_all task lt (sym is) in grind arith
   place_by lt Released is =
-      ap (λ b. chosen false b stands) (sym (li.released_all task lt (sym is)))
-      ∙ ap (λ b. chosen b is_out_lem stands) (sym (not_waiting (λ e. released_waits (spot_at i task) (sym is) e)))
+      let in-it = li.released_all task lt (sym is) in
+      let not-in = not_waiting (λ e. released_waits (spot_at i task) (sym is) e) in
+      grind arith
   place_by lt (Stacked at) is =
       let small : task < most_tasks = omega (arith, lt, k.copied.2) in
-      let at-it = ap (λ (s : Spot). stands_at s at) (sym is) ∙ eq-eqb at at refl in
-      let here : stands ≡ true =
-      one_job (λ j. eqb j.task task) i.stack i.depth at (high k i gh) (stood_at k i gh task small at (sym is)) (λ q h ne. other_job k i gh task small at (sym is) q h ne)
-      ∙ stood_task k i gh task small at (sym is) in
-      ap (λ b. chosen false false b) (sym here)
-      ∙ ap (λ b. chosen false b stands) (sym (not_released (stacked_released (spot_at i task) at at-it)))
-      ∙ ap (λ b. chosen b is_out_lem stands) (sym (not_waiting (stacked_waits (spot_at i task) at at-it)))
+      let stood = stood_here gh task small at (sym is) in
+      let here = one_job (λ j. j.task == task) i.stack i.depth at (high gh) stood.0 (λ q h ne. other_job gh task small at (sym is) q h ne) in
+      let not-in = not_waiting (λ e. grind arith) in
+      let not-out = not_released (λ e. grind arith) in
+      grind arith
 
   -- a number outside the table
-  place_none : k.sizes.tasks ≤ task → None ≡ chosen waits is_out_lem stands
+  pub place_none : k.sizes.tasks ≤ task → None ≡ chosen
   place_none far =
       let a : waits ≡ false = none_of (λ w. w.task) task ws (All-weaker (WaitsIn k i) (λ w. w.task ≢ task) (λ w h e. omega (arith, h.0)) ws li.waiting) in
-      let b : is_out_lem ≡ false = none_of (λ e. e.task) task rs (All-weaker (ReleasedIn k i) (λ e. e.task ≢ task) (λ e h q. omega (arith, h.0)) rs li.released) in
-      let c : stands ≡ false = no_jobs (λ j. eqb j.task task) i.stack i.depth (high k i gh) (λ p h. ne_eqb (job_at i p).task task (λ e. omega (arith, (known k i gh p h).0))) in
-      ap (λ x. chosen false false x) (sym c) ∙ ap (λ x. chosen false x stands) (sym b) ∙ ap (λ x. chosen x is_out_lem stands) (sym a)
-
-  pub place_over : place_in k i task ≡ place_of (state_of i ws rs) task
-  place_over =
-      elim (cases_lt task k.sizes.tasks) [
-        | inl lt ↦ cond-true (ltb task k.sizes.tasks) _ _ (lt-ltb _ _ lt) ∙ place_by lt (spot_at i task) refl
-        | inr far ↦ cond-false (ltb task k.sizes.tasks) _ _ (le-ltb _ _ far) ∙ place_none far
-      ]
+      let b : is_out ≡ false = none_of (λ e. e.task) task rs (All-weaker (ReleasedIn k i) (λ e. e.task ≢ task) (λ e h q. omega (arith, h.0)) rs li.released) in
+      let c : stands ≡ false = no_jobs (λ j. j.task == task) i.stack i.depth (high gh) (λ p h. grind (arith, nat_tests, (gh.known p h).0)) in
+      grind arith

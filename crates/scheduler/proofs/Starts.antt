@@ -1,7 +1,6 @@
 -- A new core: every task is put into the waiting queue in turn, and what it keeps is sound.
-use Rattle.std.proofs.Common.{◌≡◌, ℕ, zero, suc, ◌+◌, ◌<◌, ◌≤◌, true, false, ◌&&◌, eqb, leb, ◌≢◌, List, [], ◌∷◌, length, sym, refl, ap, ◌∙◌, inl, inr, add-zero, zero-add, add-one, arith}
+use Rattle.std.proofs.Common.{◌≡◌, ℕ, zero, suc, ◌+◌, ◌<◌, ◌≤◌, true, false, ◌&&◌, ◌==◌, nat_le, ◌≢◌, List, [], ◌∷◌, length, sym, refl, ap, ◌∙◌, add-zero, zero-add, add-one, arith}
 use Rattle.std.specs.List.{AllByRecursion}
-use Rattle.std.proofs.lemmas.Bool.{cond-false, cases_eq, eq-eqb, eqb-true, leb-true, and_parts, or_left, or_right}
 use Rattle.std.proofs.lemmas.Simd.{get_or-replicate}
 use Rattle.std.proofs.lemmas.Bool.Decides.{nat_tests}
 use Rattle.std.proofs.ByRecursion.{All-weaker}
@@ -47,8 +46,9 @@ firsts_more : (n i : ℕ) → insert_sorted waiting_before (at (i + n)) (first_r
 firsts_more zero i = ap (λ m. at m ∷ []) (add-zero i)
 firsts_more (suc n) i =
     let e : i + suc n ≡ (i + 1) + n = omega arith in
-    cond-false (waiting_before (at (i + suc n)) (at i)) _ _ (later_after i (i + suc n) (omega arith))
-    ∙ ap (λ (l : List Waiting). at i ∷ l) (ap (λ m. insert_sorted waiting_before (at m) (first_releases (i + 1) n)) e ∙ firsts_more n (i + 1))
+    let ih = firsts_more n (i + 1) in
+    let later = later_after i (i + suc n) (omega arith) in
+    grind arith
 
 pub firsts_put : (room n : ℕ) → n < 32 → n < room → inserted waiting_order room (at n) (first_releases 0 n) ≡ first_releases 0 (n + 1)
 firsts_put room n small free =
@@ -60,11 +60,7 @@ firsts_put room n small free =
 -- which tasks are among the first releases
 firsts_queued : (t n i : ℕ) → i ≤ t → t < i + n → queued (λ (w : Waiting). w.task) t (first_releases i n) ≡ true
 firsts_queued t zero i low high = absurd (omega arith)
-firsts_queued t (suc n) i low high =
-    elim (cases_eq i t) [
-      | inl e ↦ or_left (eqb i t) _ (eq-eqb i t e)
-      | inr ne ↦ or_right (eqb i t) _ (firsts_queued t n (i + 1) (omega arith) (omega arith))
-    ]
+firsts_queued t (suc n) i low high = let ih = firsts_queued t n (i + 1) in grind (arith, nat_tests)
 
 firsts_at : (n i : ℕ) → AllByRecursion (λ (a : Waiting). a.release ≡ 0) (first_releases i n)
 firsts_at zero i = tt
@@ -113,5 +109,5 @@ module _ (k : Records) where
       ∙ ap (λ (js : List Job). record { clock = 0; waiting = first_releases 0 (length tasks); released = []; stack = js; counts = tally_of fresh.counts }) (jobs_none fresh.stack)
 
 -- a queue that can serve the tasks
-pub served : (a n room : ℕ) → (eqb a 0 && leb n room) ≡ true → (a ≡ 0) × (n ≤ room)
-served a n room e = let p = and_parts (eqb a 0) _ e in (eqb-true _ _ p.0, leb-true _ _ p.1)
+pub served : (a n room : ℕ) → (a == 0 && nat_le n room) ≡ true → (a ≡ 0) × (n ≤ room)
+served a n room e = grind (arith, nat_tests)

@@ -19,7 +19,6 @@ use Rattle.scheduler.specs.declared.question.Counts.{Counts}
 use Rattle.scheduler.specs.declared.stack.Inner.{Inner}
 use Rattle.scheduler.specs.declared.question.Place.{Place}
 use Rattle.scheduler.specs.declared.question.Place.TheVariants.{Waiting as IsWaiting, Released as IsReleased, Stacked as IsStacked}
-use Rattle.scheduler.specs.declared.question.Running.{Running}
 use Rattle.scheduler.specs.View.{open_of, opens_of, job_of}
 use Rattle.scheduler.specs.Steady.{job_at, spot_at, next_of}
 
@@ -156,17 +155,8 @@ open_for g i (Stacked p) = among_open g (opens_of (job_at i p).opened (job_at i 
 abbrev pub opened_for : Ticket → Inner → Bool
 opened_for g i = if nat_lt g.task most_tasks then open_for g i (spot_at i g.task) else false
 
--- the running task with its deadlines
-abbrev pub running_in : Table → Inner → Option Running
-running_in k i =
-    if i.depth == 0 then None
-    else Some (record { task = (top_of i).task; deadline = (top_of i).deadline; inherited = inherited k (job_of (top_of i)) })
-
 -- the place that is noted of a task of the table
 abbrev pub place_from : Spot → Place
 place_from Waiting = IsWaiting
 place_from Released = IsReleased
 place_from (Stacked p) = IsStacked
-
-abbrev pub place_in : Records → Inner → ℕ → Option Place
-place_in k i task = if nat_lt task k.sizes.tasks then Some (place_from (spot_at i task)) else None

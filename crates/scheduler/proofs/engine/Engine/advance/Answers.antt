@@ -1,17 +1,16 @@
-use Rattle.std.proofs.Common.{rules, ◌≡◌, ◌+◌, ◌-◌, Some, None, Err, sym, ap, ◌∙◌, arith}
+use Rattle.std.proofs.Common.{rules, ◌≡◌, ◌+◌, ◌-◌, Err, sym, ap, ◌∙◌, arith}
 use Rattle.machine.specs.declared.call.Call.TheVariants.{Advance}
 use Rattle.machine.specs.declared.call.Answer.TheVariants.{Advanced}
-use Rattle.machine.specs.State.{State, running, due}
-use Rattle.machine.specs.Step.{Outcome, step, refused, not_advanced, top_expired, lapsed, released_at, selected, advanced, advanced_answer}
+use Rattle.machine.specs.State.{State, running}
+use Rattle.machine.specs.Step.{Outcome, step, refused, top_expired, lapsed, released_at, selected, advanced, advanced_answer}
 use Rattle.scheduler.specs.declared.records.Records.{Records}
 use Rattle.scheduler.specs.declared.question.Counts.{Counts}
 use Rattle.scheduler.specs.declared.stack.Inner.{Inner}
 use Rattle.scheduler.specs.View.{table_of, jobs_of, state_of}
-use Rattle.scheduler.specs.Moves.{refused_at}
 use Rattle.scheduler.specs.Parts.{Parts, state_in}
 use Rattle.scheduler.specs.Calls.{of_advance}
 use Rattle.scheduler.proofs.Picks.{running_over}
-use Rattle.scheduler.proofs.Calls.{passed, advance_refused, advance_done, advance_is}
+use Rattle.scheduler.proofs.Calls.{passed, advance_is, advance_parts}
 use Rattle.scheduler.proofs.engine.Engine.advance.Given.{Over}
 use Rattle.scheduler.proofs.engine.Engine.advance.Goals as goal
 
@@ -19,15 +18,7 @@ use Rattle.scheduler.proofs.engine.Engine.advance.Goals as goal
 refused_is : (g : Over) (c : goal.After-from_residual g)
     → let p = c.self.inside in let s = state_of p.inner (g.W.Queue.list p.waiting) (g.R.Queue.list p.released) in
     step (table_of p.records) (Advance c.args.t) s ≡ refused s c.in_err-check_instant.field-0.0
-refused_is g c =
-    let p = c.self.inside in
-    let s = state_of p.inner (g.W.Queue.list p.waiting) (g.R.Queue.list p.released) in
-    let r = c.in_err-check_instant.field-0.0 in
-    let why : not_advanced c.args.t s ≡ Some r =
-    ap (λ (q : Parts _ _). not_advanced c.args.t (state_in g.W.Queue g.R.Queue q)) c.self.view_is
-    ∙ ap (λ n. refused_at c.args.t n (due (state_in g.W.Queue g.R.Queue c.args.self.now))) (sym c.clock.ensures) ∙ ap (refused_at c.args.t c.clock.result) (sym c.due.ensures)
-    ∙ c.in_err-check_instant.ensures in
-    advance_refused (table_of p.records) c.args.t s r why
+refused_is g c = advance_is _ c.args.t _ (rw (c.clock.ensures, c.due.ensures, ← c.self.view_is) at c.in_err-check_instant.ensures)
 
 pub returns-in_err-check_instant-clause-value : goal.returns-in_err-check_instant-clause-value
 returns-in_err-check_instant-clause-value g c =
@@ -46,12 +37,7 @@ module _ (g : Over) (c : goal.After-running g) where
   end = state_in g.W.Queue g.R.Queue c.select.new.self
 
   done_is : step (table_of c.self.inside.records) (Advance c.args.t) start ≡ passed (table_of c.self.inside.records) c.args.t start
-  done_is =
-      let why : not_advanced c.args.t start ≡ None =
-      ap (λ (q : Parts _ _). not_advanced c.args.t (state_in g.W.Queue g.R.Queue q)) c.self.view_is
-      ∙ ap (λ n. refused_at c.args.t n (due (state_in g.W.Queue g.R.Queue c.args.self.now))) (sym c.clock.ensures) ∙ ap (refused_at c.args.t c.clock.result) (sym c.due.ensures)
-      ∙ c.in_ok-check_instant.ensures in
-      advance_done (table_of c.self.inside.records) c.args.t start why
+  done_is = advance_is _ c.args.t _ (rw (c.clock.ensures, c.due.ensures, ← c.self.view_is) at c.in_ok-check_instant.ensures)
 
   reached : end ≡ advanced (table_of c.self.inside.records) c.args.t start
   reached =
@@ -65,7 +51,7 @@ module _ (g : Over) (c : goal.After-running g) where
       let r3 = c.release-released.ensures.records ∙ r2 in
       let p = c.self.inside in
       let on : Inner → State = λ i. top_expired (table_of p.records) t (state_of i (g.W.Queue.list p.waiting) (g.R.Queue.list p.released)) (jobs_of i.stack i.depth) in
-      advance_is (table_of p.records) t start s1 s2 s3 end (c.expire_running-ended.ensures.after ∙ ap on c.set_clock.ensures)
+      advance_parts (table_of p.records) t start s1 s2 s3 end (c.expire_running-ended.ensures.after ∙ ap on c.set_clock.ensures)
       (c.lapse-lapsed.ensures.after ∙ ap (λ (x : Records). lapsed (table_of x) t s1 s1.released) r1)
       (c.release-released.ensures.after ∙ ap (λ (x : Records). released_at (table_of x) t s2 s2.waiting) r2)
       (c.select.ensures.after ∙ ap (λ (x : Records). selected (table_of x) s3) r3)

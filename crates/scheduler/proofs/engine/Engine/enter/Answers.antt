@@ -1,18 +1,16 @@
-use Rattle.std.proofs.Common.{rules, ◌≡◌, ℕ, ◌-◌, Err, Option, sym, refl, ap, ◌∙◌, subst, arith, length-set}
+use Rattle.std.proofs.Common.{rules, ◌≡◌, ℕ, ◌-◌, Err, sym, refl, ap, ◌∙◌, arith, length-set}
 use Rattle.machine.specs.declared.call.Call.TheVariants.{Enter}
 use Rattle.machine.specs.declared.call.Answer.TheVariants.{Granted}
-use Rattle.machine.specs.declared.call.Refusal.{Refusal}
 use Rattle.machine.specs.Step.{Outcome, step, refused}
 use Rattle.scheduler.specs.declared.stack.Inner.{Inner}
 use Rattle.scheduler.specs.View.{table_of, state_of}
-use Rattle.scheduler.specs.Steady.{Steady, chained}
-use Rattle.scheduler.specs.Moves.{top_of, with_open, entered_by, enter_refusal}
-use Rattle.scheduler.specs.Parts.{Parts}
+use Rattle.scheduler.specs.Moves.{top_of, with_open, entered_by}
 use Rattle.scheduler.specs.Calls.{of_enter}
 use Rattle.scheduler.proofs.Jobs.{opens_push}
 use Rattle.scheduler.proofs.Ghosts.{top_ghosts}
-use Rattle.scheduler.proofs.Fits.{top_listed, listed_as}
-use Rattle.scheduler.proofs.Calls.{by_refusal, granted, enter_is, enter_state, enter_some}
+use Rattle.scheduler.proofs.Fits.{top_listed}
+use Rattle.scheduler.proofs.Steps.{left}
+use Rattle.scheduler.proofs.Calls.{granted, enter_is, enter_some}
 use Rattle.scheduler.proofs.engine.Engine.enter.Given.{Over}
 use Rattle.scheduler.proofs.engine.Engine.enter.Goals as goal
 
@@ -20,14 +18,7 @@ use Rattle.scheduler.proofs.engine.Engine.enter.Goals as goal
 refused_is : (g : Over) (c : goal.After-from_residual g)
     → let p = c.self.inside in let s = state_of p.inner (g.W.Queue.list p.waiting) (g.R.Queue.list p.released) in
     step (table_of p.records) (Enter c.args.section) s ≡ refused s c.in_err-task.field-0.0
-refused_is g c =
-    let p = c.self.inside in
-    let x = c.args.section in
-    let ws = g.W.Queue.list p.waiting in
-    let rs = g.R.Queue.list p.released in
-    let s = state_of p.inner ws rs in
-    let why = ap (λ (q : Parts _ _). enter_refusal q.records q.inner x) c.self.view_is ∙ c.in_err-task.ensures in
-    enter_is p.records p.inner c.self.invariant.steady ws rs x ∙ ap (λ (o : Option Refusal). by_refusal o s (granted p.records p.inner c.self.invariant.steady ws rs x)) why
+refused_is g c = let p = c.self.inside in enter_is c.self.invariant.steady _ _ c.args.section (rw (← c.self.view_is) at c.in_err-task.ensures)
 
 pub returns-in_err-task-clause-value : goal.returns-in_err-task-clause-value
 returns-in_err-task-clause-value g c =
@@ -40,50 +31,33 @@ returns-in_err-task-clause-after g c = rw (← c.self.view_is) (ap (λ (o : Outc
 pub enter-serial-requires-clause-top : goal.enter-serial-requires-clause-top
 enter-serial-requires-clause-top g c =
     let p = c.self.inside in
-    let why = ap (λ (q : Parts _ _). enter_refusal q.records q.inner c.args.section) c.self.view_is ∙ c.in_ok-task.ensures.0 in
-    let open-to = enter_some p.records p.inner c.self.invariant.steady c.args.section (sym why) in
+    let open-to = enter_some c.self.invariant.steady c.args.section (rw (← c.self.view_is) at c.in_ok-task.ensures.0) in
     (open-to.some, open-to.room)
 
 pub invariant_of-self : goal.invariant_of-self
 invariant_of-self g c =
-    let p = c.self.inside in
-    let k = p.records in
-    let i = p.inner in
+    let i = c.self.inside.inner in
     let x = c.args.section in
+    let top = top_of i in
     let steady = c.self.invariant.steady in
-    let why = ap (λ (q : Parts _ _). enter_refusal q.records q.inner x) c.self.view_is ∙ c.in_ok-task.ensures.0 in
-    let open-to = enter_some k i steady x (sym why) in
-    let wide = steady.tall.3 (i.depth - 1) (omega (arith, steady.tall.2, open-to.some)) in
-    record {
-      steady = subst (Steady k) (sym c.enter-serial.ensures.after)
-          (top_ghosts k i steady (with_open x i.counts.entries (top_of i)) open-to.some (entered_by i x).counts refl refl (omega (arith, open-to.room))
-          (length-set (top_of i).opened (top_of i).count _ ∙ wide)
-          (ap (chained (table_of k)) (opens_push (top_of i).opened (top_of i).count (record { section = x; serial = i.counts.entries }) (omega (arith, open-to.room, wide))) ∙ open-to.nested)
-          (omega arith) (omega (arith, open-to.counted)));
-      waiting = c.self.invariant.waiting;
-      released = c.self.invariant.released;
-      lists = listed_as c.enter-serial.ensures.after refl refl refl refl
-          (top_listed k i steady _ _ _ _ c.self.invariant.lists (with_open x i.counts.entries (top_of i)) (entered_by i x).counts open-to.some refl refl refl refl refl);
-    }
+    let open-to = enter_some steady x (rw (← c.self.view_is) at c.in_ok-task.ensures.0) in
+    let full = steady.tall.3 (i.depth - 1) (omega (arith, steady.tall.2, open-to.some)) in
+    (left c.enter-serial.ensures.after refl refl refl refl c.self.invariant.waiting c.self.invariant.released
+    (top_ghosts steady (with_open x i.counts.entries top) open-to.some (entered_by i x).counts refl refl (omega (arith, open-to.room)) (length-set top.opened top.count _ ∙ full)
+    (rw (opens_push top.opened top.count (record { section = x; serial = i.counts.entries }) (omega (arith, open-to.room, full))) open-to.nested) (omega arith) (omega (arith, open-to.counted)))
+    (top_listed steady c.self.invariant.lists (with_open x i.counts.entries top) (entered_by i x).counts open-to.some refl refl refl refl refl)).fits
 
 -- an entry that is not refused is the machine's
 granted_is : (g : Over) (c : goal.After-enter-serial g)
     → let p = c.self.inside in let ws = g.W.Queue.list p.waiting in let rs = g.R.Queue.list p.released in
-    step (table_of p.records) (Enter c.args.section) (state_of p.inner ws rs) ≡ granted p.records p.inner c.self.invariant.steady ws rs c.args.section
-granted_is g c =
-    let p = c.self.inside in
-    let x = c.args.section in
-    let ws = g.W.Queue.list p.waiting in
-    let rs = g.R.Queue.list p.released in
-    let why = ap (λ (q : Parts _ _). enter_refusal q.records q.inner x) c.self.view_is ∙ c.in_ok-task.ensures.0 in
-    enter_is p.records p.inner c.self.invariant.steady ws rs x
-    ∙ ap (λ (o : Option Refusal). by_refusal o (state_of p.inner ws rs) (granted p.records p.inner c.self.invariant.steady ws rs x)) why
+    step (table_of p.records) (Enter c.args.section) (state_of p.inner ws rs) ≡ granted p.records p.inner ws rs c.args.section
+granted_is g c = let p = c.self.inside in enter_is c.self.invariant.steady _ _ c.args.section (rw (← c.self.view_is) at c.in_ok-task.ensures.0)
 
 pub returns-clause-value : goal.returns-clause-value
 returns-clause-value g c =
     let p = c.self.inside in
     let x = c.args.section in
-    let task = c.in_ok-task.ensures.1 ∙ ap (λ (q : Parts _ _). (top_of q.inner).task) (sym c.self.view_is) in
+    let task = rw (← c.self.view_is) at c.in_ok-task.ensures.1 in
     rw (← c.self.view_is)
     (ap (λ (n : ℕ). Granted (record { task = n; section = x; serial = c.enter-serial.result })) task
     ∙ ap (λ (n : ℕ). Granted (record { task = (top_of p.inner).task; section = x; serial = n })) c.enter-serial.ensures.serial
@@ -92,12 +66,5 @@ returns-clause-value g c =
 pub returns-clause-after : goal.returns-clause-after
 returns-clause-after g c =
     let p = c.self.inside in
-    let x = c.args.section in
-    let ws = g.W.Queue.list p.waiting in
-    let rs = g.R.Queue.list p.released in
-    let why = ap (λ (q : Parts _ _). enter_refusal q.records q.inner x) c.self.view_is ∙ c.in_ok-task.ensures.0 in
-    let open-to = enter_some p.records p.inner c.self.invariant.steady x (sym why) in
     rw (← c.self.view_is)
-    (ap (λ (j : Inner). state_of j ws rs) c.enter-serial.ensures.after
-    ∙ enter_state p.records p.inner c.self.invariant.steady ws rs x open-to.some open-to.room
-    ∙ ap (λ (o : Outcome). o.state) (sym (granted_is g c)))
+    (ap (λ (j : Inner). state_of j (g.W.Queue.list p.waiting) (g.R.Queue.list p.released)) c.enter-serial.ensures.after ∙ ap (λ (o : Outcome). o.state) (sym (granted_is g c)))

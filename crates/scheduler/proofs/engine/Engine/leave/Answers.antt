@@ -1,22 +1,22 @@
-use Rattle.std.proofs.Common.{◌≡◌, ◌-◌, ◌<◌, sym, refl, ap, ◌∙◌, subst, arith}
-use Rattle.std.proofs.lemmas.Bool.{cond-true, cond-false}
+use Rattle.std.proofs.Common.{◌≡◌, ◌-◌, ◌<◌, sym, refl, ap, ◌∙◌, arith}
 use Rattle.machine.specs.declared.call.Call.TheVariants.{Leave}
 use Rattle.machine.specs.declared.call.Answer.TheVariants.{Running}
 use Rattle.machine.specs.declared.call.Refusal.TheVariants.{NotInnermost, NotOpen}
 use Rattle.machine.specs.State.{State, running}
 use Rattle.machine.specs.Step.{Outcome, step, refused, selected}
+use Rattle.machine.proofs.Cases.{chosen}
 use Rattle.scheduler.specs.declared.stack.Inner.{Inner}
 use Rattle.scheduler.specs.Answered.{told}
 use Rattle.scheduler.specs.View.{table_of, open_of, opens_of, jobs_of, state_of}
-use Rattle.scheduler.specs.Steady.{Steady, chained}
-use Rattle.scheduler.specs.Moves.{top_of, no_open, last_open, with_closed, left_by, innermost_for, opened_for}
+use Rattle.scheduler.specs.Moves.{top_of, no_open, last_open, with_closed, left_by}
 use Rattle.scheduler.specs.Parts.{Parts, state_in}
 use Rattle.scheduler.proofs.Jobs.{opens_top}
 use Rattle.scheduler.proofs.Facts.{chained_parts}
-use Rattle.scheduler.proofs.Ghosts.{top_open, top_ghosts}
-use Rattle.scheduler.proofs.Fits.{top_listed, listed_as}
+use Rattle.scheduler.proofs.Ghosts.{wide, top_open, top_ghosts}
+use Rattle.scheduler.proofs.Fits.{top_listed}
+use Rattle.scheduler.proofs.Steps.{left}
 use Rattle.scheduler.proofs.Picks.{running_over}
-use Rattle.scheduler.proofs.Grants.{gone, leave_some, leave_is}
+use Rattle.scheduler.proofs.Grants.{leave_some, leave_is}
 use Rattle.scheduler.proofs.engine.Engine.leave.Given.{Over}
 use Rattle.scheduler.proofs.engine.Engine.leave.Goals as goal
 
@@ -26,11 +26,7 @@ kept_is : (g : Over) (c : goal.Then-is_open g)
     step (table_of p.records) (Leave c.args.grant.ticket) s ≡ refused s (NotInnermost c.args.grant.ticket)
 kept_is g c =
     let p = c.self.inside in
-    let ticket = c.args.grant.ticket in
-    let open-still = ap (λ (q : Parts _ _). opened_for ticket q.inner) c.self.view_is ∙ sym c.if-is_open.ensures in
-    leave_is p.records p.inner c.self.invariant.steady ticket (g.W.Queue.list p.waiting) (g.R.Queue.list p.released)
-    ∙ cond-false (innermost_for ticket p.inner) _ _ (sym c.if-not-is_innermost.ensures)
-    ∙ cond-true (opened_for ticket p.inner) _ _ open-still
+    leave_is c.self.invariant.steady c.args.grant.ticket _ _ (sym c.if-not-is_innermost.ensures) (sym (rw (← c.self.view_is) at c.if-is_open.ensures))
 
 pub returns-then-is_open-clause-value : goal.returns-then-is_open-clause-value
 returns-then-is_open-clause-value g c = rw (← c.self.view_is) (ap (λ (o : Outcome). told o.answer) (sym (kept_is g c)))
@@ -44,11 +40,7 @@ spent_is : (g : Over) (c : goal.Else-is_open g)
     step (table_of p.records) (Leave c.args.grant.ticket) s ≡ refused s NotOpen
 spent_is g c =
     let p = c.self.inside in
-    let ticket = c.args.grant.ticket in
-    let shut = ap (λ (q : Parts _ _). opened_for ticket q.inner) c.self.view_is ∙ sym c.if-is_open.ensures in
-    leave_is p.records p.inner c.self.invariant.steady ticket (g.W.Queue.list p.waiting) (g.R.Queue.list p.released)
-    ∙ cond-false (innermost_for ticket p.inner) _ _ (sym c.if-not-is_innermost.ensures)
-    ∙ cond-false (opened_for ticket p.inner) _ _ shut
+    leave_is c.self.invariant.steady c.args.grant.ticket _ _ (sym c.if-not-is_innermost.ensures) (sym (rw (← c.self.view_is) at c.if-is_open.ensures))
 
 pub returns-then-not-is_innermost-clause-value : goal.returns-then-not-is_innermost-clause-value
 returns-then-not-is_innermost-clause-value g c = rw (← c.self.view_is) (ap (λ (o : Outcome). told o.answer) (sym (spent_is g c)))
@@ -60,47 +52,38 @@ pub leave-requires-clause-counts : goal.leave-requires-clause-counts
 leave-requires-clause-counts g c =
     let p = c.self.inside in
     let steady = c.self.invariant.steady in
-    let some = leave_some p.records p.inner steady c.args.grant.ticket (sym c.if-not-is_innermost.ensures) in
-    omega (arith, steady.balanced.0, steady.balanced.1, top_open p.records p.inner steady some.0, some.1)
+    let some = leave_some steady c.args.grant.ticket (sym c.if-not-is_innermost.ensures) in
+    omega (arith, steady.balanced.0, steady.balanced.1, top_open steady some.0, some.1)
 
 pub invariant_of-self : goal.invariant_of-self
 invariant_of-self g c =
-    let p = c.self.inside in
-    let k = p.records in
-    let i = p.inner in
+    let k = table_of c.self.inside.records in
+    let i = c.self.inside.inner in
+    let top = top_of i in
     let steady = c.self.invariant.steady in
-    let some = leave_some k i steady c.args.grant.ticket (sym c.if-not-is_innermost.ensures) in
+    let some = leave_some steady c.args.grant.ticket (sym c.if-not-is_innermost.ensures) in
     let last : i.depth - 1 < i.depth = omega (arith, some.0) in
-    let wide = steady.tall.3 (i.depth - 1) (omega (arith, steady.tall.2, some.0)) in
-    let few = (steady.known (i.depth - 1) last).2 in
-    let nest = (chained_parts (table_of k) (open_of (last_open (top_of i))) (opens_of (top_of i).opened ((top_of i).count - 1))
-    (ap (chained (table_of k)) (sym (opens_top (top_of i).opened (top_of i).count no_open some.1 (omega (arith, few, wide)))) ∙ steady.nested (i.depth - 1) last)).1 in
-    record {
-      steady = subst (Steady k) (sym c.leave.ensures)
-          (top_ghosts k i steady (with_closed (top_of i)) some.0 (left_by i).counts refl refl (omega (arith, few)) wide nest (omega (arith, some.1)) steady.balanced.1);
-      waiting = c.self.invariant.waiting;
-      released = c.self.invariant.released;
-      lists = listed_as c.leave.ensures refl refl refl refl
-          (top_listed k i steady _ _ _ _ c.self.invariant.lists (with_closed (top_of i)) (left_by i).counts some.0 refl refl refl refl refl);
-    }
+    let full = steady.tall.3 (i.depth - 1) (omega (arith, steady.tall.2, some.0)) in
+    let nest = (chained_parts k (open_of (last_open top)) (opens_of top.opened (top.count - 1))
+    (rw (opens_top top.opened top.count no_open some.1 (wide steady (i.depth - 1) last)) at (steady.nested (i.depth - 1) last))).1 in
+    (left c.leave.ensures refl refl refl refl c.self.invariant.waiting c.self.invariant.released
+    (top_ghosts steady (with_closed top) some.0 (left_by i).counts refl refl (omega (arith, (steady.known (i.depth - 1) last).2)) full nest (omega (arith, some.1)) steady.balanced.1)
+    (top_listed steady c.self.invariant.lists (with_closed top) (left_by i).counts some.0 refl refl refl refl refl)).fits
 
 -- a leave that is not refused is the machine's, and leaves its state
 module _ (g : Over) (c : goal.After-running g) where
-  gone_is :
-      let p = c.self.inside in let ws = g.W.Queue.list p.waiting in let rs = g.R.Queue.list p.released in
-      step (table_of p.records) (Leave c.args.grant.ticket) (state_of p.inner ws rs) ≡ gone p.records p.inner c.self.invariant.steady c.args.grant.ticket ws rs
-  gone_is =
-      let p = c.self.inside in
-      let ticket = c.args.grant.ticket in
-      leave_is p.records p.inner c.self.invariant.steady ticket (g.W.Queue.list p.waiting) (g.R.Queue.list p.released)
-      ∙ cond-true (innermost_for ticket p.inner) _ _ (sym c.if-not-is_innermost.ensures)
+  abbrev freed : State
+  freed = state_of (left_by c.self.inside.inner) (g.W.Queue.list c.self.inside.waiting) (g.R.Queue.list c.self.inside.released)
 
-  reached :
-      let p = c.self.inside in let ws = g.W.Queue.list p.waiting in let rs = g.R.Queue.list p.released in
-      state_in g.W.Queue g.R.Queue c.select.new.self ≡ (gone p.records p.inner c.self.invariant.steady c.args.grant.ticket ws rs).state
+  gone_is :
+      let p = c.self.inside in
+      step (table_of p.records) (Leave c.args.grant.ticket) (state_of p.inner (g.W.Queue.list p.waiting) (g.R.Queue.list p.released)) ≡ chosen (table_of p.records) freed
+  gone_is = let p = c.self.inside in leave_is c.self.invariant.steady c.args.grant.ticket _ _ (sym c.if-not-is_innermost.ensures) refl
+
+  reached : state_in g.W.Queue g.R.Queue c.select.new.self ≡ selected (table_of c.self.inside.records) freed
   reached =
       let p = c.self.inside in
-      c.select.ensures.after ∙ ap (selected (table_of p.records)) (ap (λ (i : Inner). state_of i (g.W.Queue.list p.waiting) (g.R.Queue.list p.released)) c.leave.ensures)
+      c.select.ensures.after ∙ ap (λ (i : Inner). selected (table_of p.records) (state_of i (g.W.Queue.list p.waiting) (g.R.Queue.list p.released))) c.leave.ensures
 
 pub returns-clause-value : goal.returns-clause-value
 returns-clause-value g c =

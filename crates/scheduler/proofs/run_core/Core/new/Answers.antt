@@ -1,4 +1,4 @@
-use Rattle.std.proofs.Common.{◌≡◌, List, [], sym, refl, ap, ◌∙◌, subst}
+use Rattle.std.proofs.Common.{◌≡◌, List, [], sym, refl, ap, ◌∙◌}
 use Rattle.std.proofs.lemmas.List.{nil_from_length}
 use Rattle.queue.specs.declared.waiting.Waiting.{Waiting}
 use Rattle.queue.specs.declared.released.Released.{Released}
@@ -7,9 +7,8 @@ use Rattle.table.specs.declared.records.SectionRecord.{SectionRecord}
 use Rattle.machine.specs.State.{Table, first_releases}
 use Rattle.scheduler.specs.declared.stack.Inner.{Inner}
 use Rattle.scheduler.specs.View.{table_of, state_of}
-use Rattle.scheduler.specs.Steady.{Steady}
 use Rattle.scheduler.specs.Moves.{fresh}
-use Rattle.scheduler.proofs.Fits.{listed_as}
+use Rattle.scheduler.proofs.Steps.{left}
 use Rattle.scheduler.proofs.Starts.{served, fresh_ghosts, fresh_listed, fresh_state}
 use Rattle.scheduler.proofs.run_core.Core.new.Goals as goal
 
@@ -20,13 +19,8 @@ invariant_of-engine g c =
     let in-wait = served _ _ _ (sym c.serves.ensures ∙ c.if-not-serves.false) in
     let out = served _ _ _ (sym c.serves-else-not-serves.ensures ∙ c.if-not-serves-2.false) in
     let none : rs ≡ [] = nil_from_length rs out.0 in
-    record {
-      steady = subst (Steady k) (sym c.new.ensures) (fresh_ghosts k);
-      waiting = c.fill.ensures.ordered;
-      released = c.requires.ordered.1;
-      lists = listed_as c.new.ensures c.fill.ensures.list none c.fill.ensures.capacity refl
-          (fresh_listed k (g.W.Queue.capacity c.args.waiting) (g.R.Queue.capacity c.args.released) in-wait.1 out.1);
-    }
+    (left c.new.ensures c.fill.ensures.list none c.fill.ensures.capacity refl c.fill.ensures.ordered c.requires.ordered.1 (fresh_ghosts k)
+    (fresh_listed k (g.W.Queue.capacity c.args.waiting) (g.R.Queue.capacity c.args.released) in-wait.1 out.1)).fits
 
 pub returns-clause-started : goal.returns-clause-started
 returns-clause-started g c _ =
