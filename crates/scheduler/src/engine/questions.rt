@@ -1,6 +1,7 @@
 //! What an engine answers to questions, which alter nothing.
-ghost use Rattle.std.specs.Prelude.{◌≡◌};
-ghost use Rattle.machine.specs.State.{sooner, first_deadline, first_release, due};
+ghost use Rattle.std.specs.Prelude.{◌≡◌, min};
+ghost use Rattle.std.specs.List.{reduce, filter_map};
+ghost use Rattle.machine.specs.State.{first_deadline, first_release, due};
 ghost use Rattle.scheduler.specs.View.{table_of};
 ghost use Rattle.scheduler.specs.Calls.{place_of, running_job};
 ghost use Rattle.scheduler.specs.Parts.{state_in};
@@ -9,14 +10,11 @@ use super::Engine;
 use crate::question::{Counts, Place, Running};
 use queue::{Queue, Released, Waiting};
 
-/// The sooner of two instants, where none is later than any.
-fn sooner(a: Option<u64>, b: Option<u64>) -> Option<u64>
-    ensures { result ≡ sooner a b }
+/// The soonest of some instants, where none is later than any.
+fn soonest(instants: &[Option<u64>]) -> Option<u64>
+    ensures { result ≡ reduce min (filter_map (λ instant. instant) instants.now) }
 {
-    match (a, b) {
-        (Some(x), Some(y)) => Some(x.min(y)),
-        _ => a.or(b),
-    }
+    instants.iter().filter_map(|instant| *instant).min()
 }
 
 impl<W: Queue<Entry = Waiting>, R: Queue<Entry = Released>> Engine<W, R> {
@@ -46,8 +44,11 @@ impl<W: Queue<Entry = Waiting>, R: Queue<Entry = Released>> Engine<W, R> {
     pub(crate) fn due(&self) -> Option<u64>
         ensures { result ≡ due (state_in W.Queue R.Queue self.now) }
     {
-        let entry = sooner(self.first_deadline(), self.first_release());
-        sooner(self.inner.deadline(), entry)
+        soonest(&[
+            self.inner.deadline(),
+            self.first_deadline(),
+            self.first_release(),
+        ])
     }
 
     /// Where a task is, as it is noted; none for a number outside the table.
