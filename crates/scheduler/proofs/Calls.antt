@@ -23,7 +23,6 @@ use Rattle.scheduler.specs.Steady.{job_at, chained, Steady}
 use Rattle.scheduler.specs.Moves.{top_of, no_open, innermost_of, enterable_at, enter_refusal, finish_refusal, again_of, with_open}
 use Rattle.scheduler.specs.Moves.{entered_by, finished_by}
 use Rattle.scheduler.proofs.Jobs.{jobs_none, jobs_top, jobs_set, opens_none, opens_top, opens_push}
-use Rattle.scheduler.proofs.Facts.{section_at_lem, sections_length}
 use Rattle.scheduler.proofs.Ghosts.{high, wide}
 use Rattle.scheduler.proofs.Events.{top_count}
 
@@ -66,7 +65,7 @@ chain_inside k (o ∷ os) c =
 
 chain_short : (k : Records) (os : List Open) → chained (table_of k) os ≡ true → length os ≤ deepest
 chain_short k os c =
-    omega (arith, length-map os (λ (o : Open). o.section), nesting_within (table_of k).tasks (table_of k).sections k.copied.4 (numbers os) (chain_inside (table_of k) os c))
+    omega (arith, length-map os (λ (o : Open). o.section), nesting_within (table_of k).tasks (table_of k).sections k.copied (numbers os) (chain_inside (table_of k) os c))
 
 module _ {k : Records} {i : Inner} (gh : Steady k i) where
   -- the innermost open section
@@ -80,8 +79,6 @@ module _ {k : Records} {i : Inner} (gh : Steady k i) where
   -- whether a section is open to entry
   enterable_over : (x p : ℕ) → p < i.depth → enterable_at k x (job_at i p) ≡ enterable (table_of k) x (job_of (job_at i p))
   enterable_over x p h =
-      let at = section_at_lem k x in
-      let all = sections_length k in
       let last = innermost_over p h in
       grind (arith, nat_tests)
 
@@ -91,6 +88,7 @@ module _ {k : Records} {i : Inner} (gh : Steady k i) where
     pub counted : i.counts.entries < most_entries
     pub nested : chained (table_of k) (record { section = x; serial = i.counts.entries } ∷ (job_of (top_of i)).opened) ≡ true
     pub room : (top_of i).count < deepest
+    pub in_table : x < length k.sections.items
 
   pub enter_some : (x : ℕ) → enter_refusal k i x ≡ None → Enterable x
   enter_some x e =
@@ -104,6 +102,7 @@ module _ {k : Records} {i : Inner} (gh : Steady k i) where
         counted = grind (arith, nat_tests);
         nested = nested;
         room = omega (arith, chain_short k (record { section = x; serial = i.counts.entries } ∷ (job_of (top_of i)).opened) nested, top_count gh some);
+        in_table = grind (arith, nat_tests, may);
       }
 
   module _ (ws : List Waiting) (rs : List Released) where

@@ -27,7 +27,7 @@ use Rattle.scheduler.specs.Steady.{job_at, spot_at, stands_at, latest, next_of, 
 use Rattle.scheduler.specs.Moves.{with_counts, with_spot, with_top, top_of, pushed, popped}
 use Rattle.scheduler.specs.Fitted.{sum_of, WaitsIn, ReleasedIn, Listed}
 use Rattle.scheduler.proofs.Jobs.{jobs_top, jobs_push, jobs_set, jobs_length}
-use Rattle.scheduler.proofs.Facts.{timed_at}
+use Rattle.scheduler.proofs.Facts.{timed_at, few_tasks}
 use Rattle.scheduler.proofs.Ghosts.{high, spot_same, spot_other}
 use Rattle.scheduler.proofs.Queues.{put_in, none_of, not_of, sum-insert, sum-most, jobs_each}
 
@@ -64,16 +64,16 @@ module _ (k : Records) (i : Inner) where
 
 module _ {k : Records} {i : Inner} (gh : Steady k i) where
   -- the next release of a task is not too far off
-  pub next_near : (task deadline : ℕ) → task < k.sizes.tasks → deadline ≤ latest → next_of (table_of k) task deadline ≤ latest + largest
+  pub next_near : (task deadline : ℕ) → task < length k.tasks.items → deadline ≤ latest → next_of (table_of k) task deadline ≤ latest + largest
   next_near task deadline h soon = omega (arith, (timed_at k task h).near)
 
-  spot_room : (task : ℕ) → task < k.sizes.tasks → task < length i.spots
-  spot_room task h = omega (arith, k.copied.2, gh.tall.1)
+  spot_room : (task : ℕ) → task < length k.tasks.items → task < length i.spots
+  spot_room task h = omega (arith, few_tasks k, gh.tall.1)
 
   -- every task with a spot is among the entries
   module _ {E : Type 0} (f : E → ℕ) (v : Spot) where
     abbrev Covers : Inner → List E → Type 0
-    Covers j xs = (t : ℕ) → t < k.sizes.tasks → spot_at j t ≡ v → queued f t xs ≡ true
+    Covers j xs = (t : ℕ) → t < length k.tasks.items → spot_at j t ≡ v → queued f t xs ≡ true
 
     -- a note of one task leaves the others among them
     keep_all :
@@ -109,14 +109,14 @@ module _ {k : Records} {i : Inner} (gh : Steady k i) where
         (jobs_each (λ j. next_of (table_of k) j.task j.deadline ≤ latest + largest) i.stack i.depth (high gh)
         (λ p h. next_near (job_at i p).task (job_at i p).deadline (gh.known p h).0 (gh.known p h).1)) in
         let d = jobs_length i.stack i.depth (high gh) in
-        omega (arith, a, b, c, d, li.few, li.places, k.copied.2)
+        omega (arith, a, b, c, d, li.few, li.places, few_tasks k)
 
     -- the job at the top ends: its task waits for its next release
     module _ (some : 0 < i.depth) where
       top_stands : stands_at (spot_at i (top_of i).task) (i.depth - 1) ≡ true
       top_stands = gh.noted (i.depth - 1) (omega arith)
 
-      top_known : (top_of i).task < k.sizes.tasks
+      top_known : (top_of i).task < length k.tasks.items
       top_known = (gh.known (i.depth - 1) (omega arith)).0
 
       top_soon : (top_of i).deadline ≤ latest
@@ -129,7 +129,7 @@ module _ {k : Records} {i : Inner} (gh : Steady k i) where
       end_apart = others_waiting k i (top_of i).task ws (stacked_waits (spot_at i (top_of i).task) (i.depth - 1) top_stands) li.waiting
 
       pub end_put : inserted waiting_order wc again ws ≡ insert_sorted waiting_before again ws
-      end_put = put_in waiting_order wc again ws (omega (arith, top_known, k.copied.2)) (none_of (λ w. w.task) (top_of i).task ws end_apart) (omega (arith, li.places, li.waiting_room))
+      end_put = put_in waiting_order wc again ws (omega (arith, top_known, few_tasks k)) (none_of (λ w. w.task) (top_of i).task ws end_apart) (omega (arith, li.places, li.waiting_room))
 
       pub end_listed :
           (c : Counts) → c.releases ≡ i.counts.releases → c.finishes + c.expiries ≡ i.counts.finishes + i.counts.expiries + 1
@@ -183,7 +183,7 @@ module _ {k : Records} {i : Inner} (gh : Steady k i) where
 
     -- is pushed
     pub push_room : i.depth < most_tasks
-    push_room = omega (arith, li.places, k.copied.2)
+    push_room = omega (arith, li.places, few_tasks k)
 
     pub push_listed : Listed k (pushed i e.task e.deadline) ws es wc rc
     push_listed =
@@ -208,7 +208,7 @@ module _ {k : Records} {i : Inner} (gh : Steady k i) where
 
     pub lapse_put : inserted waiting_order wc waits ws ≡ insert_sorted waiting_before waits ws
     lapse_put =
-        put_in waiting_order wc waits ws (omega (arith, li.released.0.0, k.copied.2)) (none_of (λ w. w.task) e.task ws first_apart) (omega (arith, li.places, li.waiting_room))
+        put_in waiting_order wc waits ws (omega (arith, li.released.0.0, few_tasks k)) (none_of (λ w. w.task) e.task ws first_apart) (omega (arith, li.places, li.waiting_room))
 
     pub lapse_listed :
         (c : Counts) → c.releases ≡ i.counts.releases → c.finishes ≡ i.counts.finishes → c.expiries ≡ i.counts.expiries + 1
@@ -242,7 +242,7 @@ module _ {k : Records} {i : Inner} (gh : Steady k i) where
 
     pub release_put : inserted released_order rc out rs ≡ insert_sorted released_before out rs
     release_put =
-        put_in released_order rc out rs (omega (arith, li.waiting.0.0, k.copied.2)) (none_of (λ e. e.task) w.task rs out_apart) (omega (arith, li.places, li.released_room))
+        put_in released_order rc out rs (omega (arith, li.waiting.0.0, few_tasks k)) (none_of (λ e. e.task) w.task rs out_apart) (omega (arith, li.places, li.released_room))
 
     pub release_listed :
         (c : Counts) → c.releases ≡ i.counts.releases + 1 → c.finishes ≡ i.counts.finishes → c.expiries ≡ i.counts.expiries

@@ -15,6 +15,7 @@ use Rattle.scheduler.specs.declared.stack.Inner.{Inner}
 use Rattle.scheduler.specs.View.{table_of, opens_of, jobs_of}
 use Rattle.scheduler.specs.Steady.{Placed, Balanced, Steady, no_record, job_at, spot_at, stands_at, stood_by, latest, chained}
 use Rattle.scheduler.specs.Moves.{with_counts, with_spot, with_top, top_of, pushed, popped}
+use Rattle.scheduler.proofs.Facts.{few_tasks}
 use Rattle.scheduler.proofs.Jobs.{jobs_top, jobs_push, jobs_set, opens_none, opens_length}
 
 -- a spot that stands for a place of the stack
@@ -84,7 +85,7 @@ module _ {k : Records} {i : Inner} (gh : Steady k i) where
   wide p h = omega (arith, (gh.known p h).2, gh.tall.3 p (omega (arith, gh.tall.2)))
 
   -- a job more on the stack
-  module _ (task deadline : ℕ) (room : i.depth < most_tasks) (in_table : task < k.sizes.tasks) (soon : deadline ≤ latest) (off : Off (spot_at i task)) where
+  module _ (task deadline : ℕ) (room : i.depth < most_tasks) (in_table : task < length k.tasks.items) (soon : deadline ≤ latest) (off : Off (spot_at i task)) where
     fresh : StackRecord
     fresh = record { task = task; deadline = deadline; count = 0; opened = (job_at i i.depth).opened }
 
@@ -119,11 +120,11 @@ module _ {k : Records} {i : Inner} (gh : Steady k i) where
         omega arith,
         λ p h. elim (cases_eq p i.depth) [ inl e ↦ rw (e, push_top) (gh.tall.3 i.depth room) | inr ne ↦ rw (push_at p ne) (gh.tall.3 p h) ],
       );
-      known = pushed_all (λ p r. (r.task < k.sizes.tasks) × (r.deadline ≤ latest) × (r.count ≤ deepest)) gh.known (in_table, soon, omega arith);
+      known = pushed_all (λ p r. (r.task < length k.tasks.items) × (r.deadline ≤ latest) × (r.count ≤ deepest)) gh.known (in_table, soon, omega arith);
       nested = pushed_all (λ p r. chained (table_of k) (opens_of r.opened r.count) ≡ true) gh.nested (ap (chained (table_of k)) (opens_none (job_at i i.depth).opened));
       noted = pushed_all (λ p r. stands_at (spot_at (pushed i task deadline) r.task) p ≡ true)
           (λ p h. ap (λ x. stands_at x p) (spot_other i task (job_at i p).task (Stacked i.depth) (apart i task (job_at i p).task p off (gh.noted p h))) ∙ gh.noted p h)
-          (rw (spot_same i task (Stacked i.depth) (omega (arith, in_table, k.copied.2, gh.tall.1))) (grind (arith, nat_tests)));
+          (rw (spot_same i task (Stacked i.depth) (omega (arith, in_table, few_tasks k, gh.tall.1))) (grind (arith, nat_tests)));
       placed = placed_kept i (pushed i task deadline) task (Stacked i.depth) refl gh.tall.1 push_stood
           (λ p h _. (omega arith, ap (λ (r : StackRecord). r.task) (push_at p (omega arith)))) gh.placed;
       balanced = push_balance;
@@ -200,7 +201,7 @@ module _ {k : Records} {i : Inner} (gh : Steady k i) where
             gh.tall.2,
             λ p h. elim (cases_eq p (i.depth - 1)) [ inl e ↦ rw (e, top_here) full | inr ne ↦ rw (top_at p ne) (gh.tall.3 p h) ],
           );
-          known = top_all (λ p q. (q.task < k.sizes.tasks) × (q.deadline ≤ latest) × (q.count ≤ deepest)) gh.known
+          known = top_all (λ p q. (q.task < length k.tasks.items) × (q.deadline ≤ latest) × (q.count ≤ deepest)) gh.known
               (omega (arith, own, (gh.known (i.depth - 1) last).0), omega (arith, due, (gh.known (i.depth - 1) last).1), few);
           nested = top_all (λ p q. chained (table_of k) (opens_of q.opened q.count) ≡ true) gh.nested nest;
           noted = top_all (λ p q. stands_at (spot_at i q.task) p ≡ true) gh.noted (ap (λ n. stands_at (spot_at i n) (i.depth - 1)) own ∙ gh.noted (i.depth - 1) last);

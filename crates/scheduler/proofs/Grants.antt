@@ -20,6 +20,7 @@ use Rattle.scheduler.specs.View.{table_of, job_of, jobs_of, state_of}
 use Rattle.scheduler.specs.Steady.{no_record, job_at, spot_at, stands_at, Steady}
 use Rattle.scheduler.specs.Moves.{top_of, no_open, with_closed, innermost_for, open_for, opened_for}
 use Rattle.scheduler.specs.Moves.{left_by}
+use Rattle.scheduler.proofs.Facts.{few_tasks}
 use Rattle.scheduler.proofs.Jobs.{jobs_none, jobs_top, jobs_more, jobs_set, opens_none, opens_top}
 use Rattle.scheduler.proofs.Ghosts.{high, wide}
 
@@ -95,7 +96,7 @@ module _ {k : Records} {i : Inner} (gh : Steady k i) (g : Ticket) where
       elim (cases_lt g.task most_tasks) [
         | inl small ↦ (let here = open_by small (spot_at i g.task) refl in grind (arith, nat_tests))
         | inr far ↦
-            (let none = no_jobs holds i.stack i.depth (high gh) (λ p h. not_held p (grind (arith, nat_tests, (gh.known p h).0, k.copied.2))) in
+            (let none = no_jobs holds i.stack i.depth (high gh) (λ p h. not_held p (grind (arith, nat_tests, (gh.known p h).0, few_tasks k))) in
             grind (arith, nat_tests))
       ]
 

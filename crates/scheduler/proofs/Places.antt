@@ -1,5 +1,5 @@
 -- The place that is noted of a task is where it is: in one of the two lists, or on the stack.
-use Rattle.std.proofs.Common.{◌≡◌, ℕ, ◌<◌, ◌≤◌, Bool, false, if◌then◌else◌, ◌==◌, ◌≢◌, List, Some, None, Option, sym, arith}
+use Rattle.std.proofs.Common.{length, ◌≡◌, ℕ, ◌<◌, ◌≤◌, Bool, false, if◌then◌else◌, ◌==◌, ◌≢◌, List, Some, None, Option, sym, arith}
 use Rattle.std.proofs.lemmas.Bool.Decides.{nat_tests}
 use Rattle.std.proofs.ByRecursion.{All-weaker}
 use Rattle.table.specs.Limits.{most_tasks}
@@ -17,6 +17,7 @@ use Rattle.scheduler.specs.Steady.{spot_at, Steady}
 use Rattle.scheduler.specs.Moves.{place_from}
 use Rattle.scheduler.specs.Fitted.{WaitsIn, ReleasedIn, Listed}
 use Rattle.scheduler.specs.Calls.{stacked}
+use Rattle.scheduler.proofs.Facts.{few_tasks}
 use Rattle.scheduler.proofs.Ghosts.{high}
 use Rattle.scheduler.proofs.Queues.{none_of}
 use Rattle.scheduler.proofs.Fits.{released_waits, others_waiting, others_released}
@@ -43,14 +44,14 @@ module _ {k : Records} {i : Inner} (gh : Steady k i) {ws : List WaitingEntry} {r
   not_released other = none_of (λ e. e.task) task rs (others_released k i task rs other li.released)
 
   -- a task of the table, by its spot
-  pub place_by : task < k.sizes.tasks → (s : Spot) → s ≡ spot_at i task → Some (place_from s) ≡ chosen
+  pub place_by : task < length k.tasks.items → (s : Spot) → s ≡ spot_at i task → Some (place_from s) ≡ chosen
   place_by lt Waiting is = let in-it = li.waiting_all task lt (sym is) in grind arith
   place_by lt Released is =
       let in-it = li.released_all task lt (sym is) in
       let not-in = not_waiting (λ e. released_waits (spot_at i task) (sym is) e) in
       grind arith
   place_by lt (Stacked at) is =
-      let small : task < most_tasks = omega (arith, lt, k.copied.2) in
+      let small : task < most_tasks = omega (arith, lt, few_tasks k) in
       let stood = stood_here gh task small at (sym is) in
       let here = one_job (λ j. j.task == task) i.stack i.depth at (high gh) stood.0 (λ q h ne. other_job gh task small at (sym is) q h ne) in
       let not-in = not_waiting (λ e. grind arith) in
@@ -58,7 +59,7 @@ module _ {k : Records} {i : Inner} (gh : Steady k i) {ws : List WaitingEntry} {r
       grind arith
 
   -- a number outside the table
-  pub place_none : k.sizes.tasks ≤ task → None ≡ chosen
+  pub place_none : length k.tasks.items ≤ task → None ≡ chosen
   place_none far =
       let a : waits ≡ false = none_of (λ w. w.task) task ws (All-weaker (WaitsIn k i) (λ w. w.task ≢ task) (λ w h e. omega (arith, h.0)) ws li.waiting) in
       let b : is_out ≡ false = none_of (λ e. e.task) task rs (All-weaker (ReleasedIn k i) (λ e. e.task ≢ task) (λ e h q. omega (arith, h.0)) rs li.released) in

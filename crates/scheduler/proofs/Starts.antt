@@ -23,7 +23,7 @@ use Rattle.scheduler.specs.Steady.{no_record, spot_at, stood_by, Steady}
 use Rattle.scheduler.specs.Moves.{fresh}
 use Rattle.scheduler.specs.Fitted.{WaitsIn, Listed}
 use Rattle.scheduler.proofs.Jobs.{jobs_none}
-use Rattle.scheduler.proofs.Facts.{tasks_length}
+use Rattle.scheduler.proofs.Facts.{few_tasks}
 use Rattle.scheduler.proofs.Fits.{released_waits}
 use Rattle.scheduler.proofs.Queues.{put_in, none_of}
 
@@ -85,26 +85,26 @@ module _ (k : Records) where
     balanced = (omega (arith, ap open_count (jobs_none fresh.stack)), omega arith);
   }
 
-  pub fresh_listed : (wc rc : ℕ) → k.sizes.tasks ≤ wc → k.sizes.tasks ≤ rc → Listed k fresh (first_releases 0 k.sizes.tasks) [] wc rc
+  pub fresh_listed : (wc rc : ℕ) → length k.tasks.items ≤ wc → length k.tasks.items ≤ rc → Listed k fresh (first_releases 0 (length k.tasks.items)) [] wc rc
   fresh_listed wc rc wide broad =
-      let n = k.sizes.tasks in
+      let n = length k.tasks.items in
       record {
         waiting_room = wide;
         released_room = broad;
         places = omega (arith, firsts_length 0 n);
         waiting = all_map2 (λ (a : Waiting). a.task < n) (λ a. a.release ≡ 0) (WaitsIn k fresh)
-            (λ a lt z. (lt, fresh_spot a.task (omega (arith, lt, k.copied.2)), omega arith)) (first_releases 0 n) (firsts_below n n 0 (omega arith)) (firsts_at n 0);
+            (λ a lt z. (lt, fresh_spot a.task (omega (arith, lt, few_tasks k)), omega arith)) (first_releases 0 n) (firsts_below n n 0 (omega arith)) (firsts_at n 0);
         released = tt;
         waiting_all = λ t lt _. firsts_queued t n 0 (omega arith) (omega arith);
-        released_all = λ t lt e. absurd (released_waits (spot_at fresh t) e (fresh_spot t (omega (arith, lt, k.copied.2))));
+        released_all = λ t lt e. absurd (released_waits (spot_at fresh t) e (fresh_spot t (omega (arith, lt, few_tasks k))));
         few = omega arith;
         jobs = omega arith;
       }
 
   pub fresh_state : (tasks : List TaskRecord) (sections : List SectionRecord) → table_of k ≡ record { tasks = tasks; sections = sections }
-      → state_of fresh (first_releases 0 k.sizes.tasks) [] ≡ start (record { tasks = tasks; sections = sections })
+      → state_of fresh (first_releases 0 (length k.tasks.items)) [] ≡ start (record { tasks = tasks; sections = sections })
   fresh_state tasks sections is =
-      let n : k.sizes.tasks ≡ length tasks = sym (tasks_length k) ∙ ap (λ (t : Table). length t.tasks) is in
+      let n : length k.tasks.items ≡ length tasks = ap (λ (t : Table). length t.tasks) is in
       ap (λ m. state_of fresh (first_releases 0 m) []) n
       ∙ ap (λ (js : List Job). record { clock = 0; waiting = first_releases 0 (length tasks); released = []; stack = js; counts = tally_of fresh.counts }) (jobs_none fresh.stack)
 

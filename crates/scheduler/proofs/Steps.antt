@@ -19,6 +19,7 @@ use Rattle.scheduler.specs.View.{table_of, state_of}
 use Rattle.scheduler.specs.Steady.{Steady}
 use Rattle.scheduler.specs.Moves.{with_counts, top_of, pushed, popped, lapsed_by, released_by, again_of}
 use Rattle.scheduler.specs.Fitted.{Listed, Fitted}
+use Rattle.scheduler.proofs.Facts.{few_tasks}
 use Rattle.scheduler.proofs.Ghosts.{note_ghosts, push_ghosts, pop_ghosts, off_waiting, off_released}
 use Rattle.scheduler.proofs.Queues.{first_is, first_single}
 use Rattle.scheduler.proofs.Fits.{next_wait, end_put, end_listed, push_room, push_listed, lapse_put, lapse_listed, release_put, release_listed}
@@ -100,7 +101,7 @@ module _ {W R : Type 0} {w : Meaning W Waiting} {r : Meaning R Released} {k : Re
             left moved
             (put.after ∙ ap (λ x. inserted waiting_order room x xs) is ∙ lapse_put fit.steady job_listed job_single)
             took.after put.capacity took.capacity put.ordered took.ordered
-            (note_ghosts fit.steady e.task Waits (lapsed_by i e.task).counts (off_released _ job.1) refl refl refl refl (omega (arith, job.0, k.copied.2)))
+            (note_ghosts fit.steady e.task Waits (lapsed_by i e.task).counts (off_released _ job.1) refl refl refl refl (omega (arith, job.0, few_tasks k)))
             (lapse_listed fit.steady job_listed job_single (lapsed_by i e.task).counts refl refl refl)
 
     -- the first waiting task is released
@@ -122,5 +123,5 @@ module _ {W R : Type 0} {w : Meaning W Waiting} {r : Meaning R Released} {k : Re
           left moved took.after
           (put.after ∙ ap (λ x. inserted released_order room x ys) is ∙ release_put fit.steady task_listed task_single soon)
           took.capacity put.capacity took.ordered put.ordered
-          (note_ghosts fit.steady a.task IsReleased (released_by i a.task).counts (off_waiting _ task.1) refl refl refl refl (omega (arith, task.0, k.copied.2)))
+          (note_ghosts fit.steady a.task IsReleased (released_by i a.task).counts (off_waiting _ task.1) refl refl refl refl (omega (arith, task.0, few_tasks k)))
           (release_listed fit.steady task_listed task_single soon (released_by i a.task).counts refl refl refl)

@@ -1,13 +1,9 @@
--- What is true of the core's copies of the records, which is a ghost field of `Records`: no more are in use than there is room for, and those in use
--- break no rule.
-use Rattle.std.specs.Prelude.{◌≡◌, ◌≤◌, true, List, length, take}
-use Rattle.table.specs.Limits.{most_tasks, most_sections}
+-- What is true of the core's copies of the records, which is a ghost field of `Records`: they break no rule.
+use Rattle.std.specs.Prelude.{◌≡◌, true}
+use Rattle.arrayvec.specs.ArrayVec.{ArrayVec}
 use Rattle.table.specs.declared.records.TaskRecord.{TaskRecord}
 use Rattle.table.specs.declared.records.SectionRecord.{SectionRecord}
-use Rattle.table.specs.declared.records.Counts.{Counts}
 use Rattle.admission.specs.Sound.{sound}
 
-abbrev pub Copied : List TaskRecord → List SectionRecord → Counts → Type 0
-Copied tasks sections sizes =
-    (length tasks ≡ most_tasks) × (length sections ≡ most_sections) × (sizes.tasks ≤ most_tasks) × (sizes.sections ≤ most_sections)
-    × (sound (take sizes.tasks tasks) (take sizes.sections sections) ≡ true)
+abbrev pub Copied : ArrayVec TaskRecord → ArrayVec SectionRecord → Type 0
+Copied tasks sections = sound tasks.items sections.items ≡ true

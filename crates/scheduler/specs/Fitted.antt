@@ -22,10 +22,10 @@ sum_of f (x ∷ xs) = f x + sum_of f xs
 
 -- a task of the table that waits, and one that is released
 abbrev pub WaitsIn : Records → Inner → Waiting → Type 0
-WaitsIn k i w = (w.task < k.sizes.tasks) × (spot_at i w.task ≡ Waits) × (w.release ≤ latest + largest)
+WaitsIn k i w = (w.task < length k.tasks.items) × (spot_at i w.task ≡ Waits) × (w.release ≤ latest + largest)
 
 abbrev pub ReleasedIn : Records → Inner → Released → Type 0
-ReleasedIn k i e = (e.task < k.sizes.tasks) × (spot_at i e.task ≡ IsReleased) × (e.deadline ≤ latest)
+ReleasedIn k i e = (e.task < length k.tasks.items) × (spot_at i e.task ≡ IsReleased) × (e.deadline ≤ latest)
 
 -- the sum of every task's next release; each release moved one of them on by its T, which is at least 1, so no more releases were counted than this
 abbrev pub ahead : Table → List Waiting → List Released → List Job → ℕ
@@ -34,13 +34,13 @@ ahead k ws rs js = sum_of (λ (w : Waiting). w.release) ws + sum_of (λ (e : Rel
 -- the lists beside the core's own fields: there is room for every task, each list has just the tasks that are noted to be there, and with the stack
 -- they have all tasks; the counts of jobs are what the lists say, and cannot run over
 pub record Listed (k : Records) (i : Inner) (ws : List Waiting) (rs : List Released) (wc rc : ℕ) : Type 0 where
-  pub waiting_room : k.sizes.tasks ≤ wc
-  pub released_room : k.sizes.tasks ≤ rc
-  pub places : length ws + length rs + i.depth ≡ k.sizes.tasks
+  pub waiting_room : length k.tasks.items ≤ wc
+  pub released_room : length k.tasks.items ≤ rc
+  pub places : length ws + length rs + i.depth ≡ length k.tasks.items
   pub waiting : AllByRecursion (WaitsIn k i) ws
   pub released : AllByRecursion (ReleasedIn k i) rs
-  pub waiting_all : (t : ℕ) → t < k.sizes.tasks → spot_at i t ≡ Waits → queued (λ (w : Waiting). w.task) t ws ≡ true
-  pub released_all : (t : ℕ) → t < k.sizes.tasks → spot_at i t ≡ IsReleased → queued (λ (e : Released). e.task) t rs ≡ true
+  pub waiting_all : (t : ℕ) → t < length k.tasks.items → spot_at i t ≡ Waits → queued (λ (w : Waiting). w.task) t ws ≡ true
+  pub released_all : (t : ℕ) → t < length k.tasks.items → spot_at i t ≡ IsReleased → queued (λ (e : Released). e.task) t rs ≡ true
   pub few : i.counts.releases ≤ ahead (table_of k) ws rs (jobs_of i.stack i.depth)
   pub jobs : i.counts.releases ≡ i.counts.finishes + i.counts.expiries + length rs + i.depth
 

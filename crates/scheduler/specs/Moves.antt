@@ -1,6 +1,6 @@
 -- What the inner parts of the core do to its own fields: a job goes onto the stack or off it, a section of the running job is opened or closed, a
 -- task's place is noted, and each is counted.
-use Rattle.std.specs.Prelude.{ℕ, ◌+◌, ◌-◌, ◌^◌, Bool, true, false, if◌then◌else◌, ◌&&◌, replicate, Some, None, Option, ◌==◌, nat_lt, slice_index_or, slice_set}
+use Rattle.std.specs.Prelude.{ℕ, ◌+◌, ◌-◌, ◌^◌, Bool, true, false, if◌then◌else◌, ◌&&◌, length, replicate, Some, None, Option, ◌==◌, nat_lt, slice_index_or, slice_set}
 use Rattle.table.specs.Limits.{most_tasks, deepest}
 use Rattle.table.specs.declared.records.SectionRecord.{SectionRecord}
 use Rattle.queue.specs.declared.waiting.Waiting.{Waiting as WaitingEntry}
@@ -130,8 +130,8 @@ no_section = record { task = 0; around = None; small = 0; capital = 0; length = 
 
 abbrev pub enterable_at : Records → ℕ → StackRecord → Bool
 enterable_at k x r =
-    nat_lt x k.sizes.sections
-    && ((slice_index_or k.sections x no_section).task == r.task && same_place (slice_index_or k.sections x no_section).around (innermost_of r))
+    nat_lt x (length k.sections.items)
+    && ((slice_index_or k.sections.items x no_section).task == r.task && same_place (slice_index_or k.sections.items x no_section).around (innermost_of r))
 
 -- why an entry and a finish are refused
 abbrev pub enter_refusal : Records → Inner → ℕ → Option Refusal

@@ -47,7 +47,7 @@ chained k (o ∷ os) = nat_lt o.section (length k.sections) && (same_place (sect
 abbrev pub Known : Records → Inner → Type 0
 Known k i =
     (p : ℕ) → p < i.depth
-    → ((job_at i p).task < k.sizes.tasks) × ((job_at i p).deadline ≤ latest) × ((job_at i p).count ≤ deepest)
+    → ((job_at i p).task < length k.tasks.items) × ((job_at i p).deadline ≤ latest) × ((job_at i p).count ≤ deepest)
 
 -- their open sections lie in one another
 abbrev pub Nested : Records → Inner → Type 0

@@ -13,7 +13,7 @@ use Rattle.scheduler.specs.declared.stack.Inner.{Inner}
 
 -- the records in use
 abbrev pub table_of : Records → Table
-table_of k = record { tasks = take k.sizes.tasks k.tasks; sections = take k.sizes.sections k.sections }
+table_of k = record { tasks = k.tasks.items; sections = k.sections.items }
 
 -- the first so many open sections of an array, innermost first
 abbrev pub open_of : OpenSection → Open

@@ -1,29 +1,27 @@
 //! The core's own copies of the records that were admitted.
-ghost use Rattle.std.specs.Prelude.{◌≡◌, ◌≤◌, length, take};
+ghost use Rattle.std.specs.Prelude.{◌≡◌, ◌≤◌, length};
 ghost use Rattle.scheduler.specs.Copies.{Copied};
 
 use crate::stack::StackRecord;
+use arrayvec::ArrayVec;
 use queue::{Released, Waiting};
 use table::limits::{MOST_SECTIONS, MOST_TASKS};
-use table::records::{Counts as Sizes, SectionRecord, TaskRecord};
+use table::records::{SectionRecord, TaskRecord};
 
-/// Copies of the records, which break no rule, and how many of each there are.
+/// Copies of the records, which break no rule.
 #[derive(Drop)]
 pub struct Records {
-    pub tasks: [TaskRecord; MOST_TASKS],
-    pub sections: [SectionRecord; MOST_SECTIONS],
-    pub sizes: Sizes,
-    ghost copied: { Copied tasks sections sizes },
+    pub tasks: ArrayVec<TaskRecord, MOST_TASKS>,
+    pub sections: ArrayVec<SectionRecord, MOST_SECTIONS>,
+    ghost copied: { Copied tasks sections },
 }
 
-/// An array that begins with a slice, and is filled up.
-fn filled<T: Copy, const N: usize>(from: &[T], empty: T) -> [T; N]
+/// A copy of a slice for which there is room.
+fn copied<T: Copy + Default, const N: usize>(from: &[T]) -> ArrayVec<T, N>
     requires { length from.now ≤ N }
-    ensures { take (length from.now) result ≡ from.now }
+    ensures { result.items ≡ from.now }
 {
-    let mut items = [empty; N];
-    items[..from.len()].copy_from_slice(from);
-    items
+    ArrayVec::try_from(from).unwrap()
 }
 
 impl Records {
@@ -39,16 +37,11 @@ impl Records {
     /// Copies of the records of a table that breaks no rule.
     pub(crate) fn copy(tasks: &[TaskRecord], sections: &[SectionRecord]) -> Records
         requires { sound tasks.now sections.now ≡ true }
-        ensures table { table_of result ≡ record { tasks = tasks.now; sections = sections.now } }
-        ensures sizes { (result.sizes.tasks ≡ length tasks.now) × (result.sizes.sections ≡ length sections.now) }
+        ensures { table_of result ≡ record { tasks = tasks.now; sections = sections.now } }
     {
         Records {
-            tasks: filled(tasks, TaskRecord::EMPTY),
-            sections: filled(sections, SectionRecord::EMPTY),
-            sizes: Sizes {
-                tasks: tasks.len(),
-                sections: sections.len(),
-            },
+            tasks: copied(tasks),
+            sections: copied(sections),
         }
     }
 
@@ -57,7 +50,7 @@ impl Records {
         requires { job.now.count ≤ deepest }
         ensures { result ≡ enterable_at self.now section job.now }
     {
-        let Some(record) = self.sections[..self.sizes.sections].get(section) else {
+        let Some(record) = self.sections.get(section) else {
             return false;
         };
         let innermost = job.innermost().map(|open| open.section as usize);
@@ -66,7 +59,7 @@ impl Records {
 
     /// The level of a section.
     fn level(&self, section: u32) -> Option<u32>
-        requires { section < self.now.sizes.sections }
+        requires { section < length self.now.sections.items }
         ensures { result ≡ (section_at (table_of self.now) section).level }
     {
         self.sections[section as usize].level
@@ -74,7 +67,7 @@ impl Records {
 
     /// The inherited deadline of a stacked job: the least of its task's D and the levels of its open sections.
     pub(crate) fn inherited(&self, job: &StackRecord) -> u32
-        requires known { (job.now.task < self.now.sizes.tasks) × (job.now.count ≤ deepest) }
+        requires known { (job.now.task < length self.now.tasks.items) × (job.now.count ≤ deepest) }
         requires nested { chained (table_of self.now) (opens_of job.now.opened job.now.count) ≡ true }
         ensures { result ≡ inherited (table_of self.now) (job_of job.now) }
     {
@@ -89,7 +82,7 @@ impl Records {
 
     /// The entry with which a task waits once its job with an absolute deadline has ended: its next release is a period after its last.
     pub(crate) fn next_release(&self, task: usize, deadline: u64) -> Waiting
-        requires { (task < self.now.sizes.tasks) × (deadline ≤ latest) }
+        requires { (task < length self.now.tasks.items) × (deadline ≤ latest) }
         ensures value { result ≡ record { release = next_of (table_of self.now) task deadline; task = task } }
         ensures near { result.release ≤ latest + largest }
     {
@@ -103,7 +96,7 @@ impl Records {
 
     /// The entry with which a waiting task is released.
     pub(crate) fn released(&self, w: Waiting) -> Released
-        requires { (w.task < self.now.sizes.tasks) × (w.release ≤ last_instant) }
+        requires { (w.task < length self.now.tasks.items) × (w.release ≤ last_instant) }
         ensures value { result ≡ release_of (table_of self.now) w }
         ensures near { result.deadline ≤ latest }
     {

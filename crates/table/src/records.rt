@@ -3,7 +3,7 @@ ghost use Rattle.std.specs.Prelude.{◌≡◌};
 ghost use Rattle.table.specs.Name.{part_of};
 
 /// A run of things that are numbered from 0: the number of the first, and how many there are.
-#[derive(Clone, Copy, Debug, PartialEq)]
+#[derive(Clone, Copy, Debug, Default, PartialEq)]
 pub struct Span {
     pub first: usize,
     pub count: usize,
@@ -25,7 +25,7 @@ impl Span {
 }
 
 /// A task: where its name stands in the text, its relative deadline D, period T and run time C in ticks, and its sections.
-#[derive(Clone, Copy, Debug, PartialEq)]
+#[derive(Clone, Copy, Debug, Default, PartialEq)]
 pub struct TaskRecord {
     pub name: Span,
     pub deadline: u32,
@@ -48,7 +48,7 @@ impl TaskRecord {
 /// A critical section: its task, the section right around it, the resources that it names itself, its length and its level.
 ///
 /// Resource `a` is bit 0 of a set and `z` bit 25. `small` has those that are named by a small letter, `capital` those by a capital.
-#[derive(Clone, Copy, Debug, PartialEq)]
+#[derive(Clone, Copy, Debug, Default, PartialEq)]
 pub struct SectionRecord {
     pub task: usize,
     pub around: Option<usize>,

@@ -55,7 +55,7 @@ impl<W: Queue<Entry = Waiting>, R: Queue<Entry = Released>> Engine<W, R> {
     pub(crate) fn place(&self, task: usize) -> Option<Place>
         ensures { result ≡ place_of (state_in W.Queue R.Queue self.now) task }
     {
-        if task >= self.records.sizes.tasks {
+        if task >= self.records.tasks.len() {
             return None;
         }
         let inner = &self.inner;

@@ -54,7 +54,7 @@ impl<W: Queue<Entry = Waiting>, R: Queue<Entry = Released>> Core<W, R> {
         ensures same { result.live ≡ false → (result.waiting ≡ waiting) × (result.released ≡ released) }
     {
         let records = Records::copy(pass.tasks(), pass.sections());
-        let tasks = records.sizes.tasks;
+        let tasks = records.tasks.len();
         if !serves(&waiting, tasks) || !serves(&released, tasks) {
             let idle = Idle {
                 records,

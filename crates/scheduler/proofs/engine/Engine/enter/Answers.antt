@@ -1,4 +1,5 @@
 use Rattle.std.proofs.Common.{rules, ◌≡◌, ℕ, ◌-◌, Err, sym, refl, ap, ◌∙◌, arith, length-set}
+use Rattle.admission.proofs.SoundFacts.{few_sections}
 use Rattle.machine.specs.declared.call.Call.TheVariants.{Enter}
 use Rattle.machine.specs.declared.call.Answer.TheVariants.{Granted}
 use Rattle.machine.specs.Step.{Outcome, step, refused}
@@ -27,6 +28,11 @@ returns-in_err-task-clause-value g c =
 
 pub returns-in_err-task-clause-after : goal.returns-in_err-task-clause-after
 returns-in_err-task-clause-after g c = rw (← c.self.view_is) (ap (λ (o : Outcome). o.state) (sym (refused_is g c)))
+
+pub overflow_cast-section : goal.overflow_cast-section
+overflow_cast-section g c =
+    let open-to = enter_some c.self.invariant.steady c.args.section (rw (← c.self.view_is) at c.in_ok-task.ensures.0) in
+    omega (arith, open-to.in_table, few_sections _ _ c.self.inside.records.copied)
 
 pub enter-serial-requires-clause-top : goal.enter-serial-requires-clause-top
 enter-serial-requires-clause-top g c =

@@ -7,6 +7,7 @@ use Rattle.machine.specs.State.{State}
 use Rattle.machine.specs.Step.{lapsed}
 use Rattle.scheduler.specs.View.{table_of, state_of}
 use Rattle.scheduler.specs.Moves.{lapsed_by}
+use Rattle.scheduler.proofs.Facts.{few_tasks}
 use Rattle.scheduler.proofs.Queues.{first_is}
 use Rattle.scheduler.proofs.Fits.{next_wait}
 use Rattle.scheduler.proofs.Events.{lapse_step, expiries_most}
@@ -18,7 +19,7 @@ pub lapse-requires : goal.lapse-requires
 lapse-requires g c =
     let p = c.self.inside in
     let first = job_listed c.self.invariant c.in-Some.e c.in-Some.ensures in
-    (omega (arith, first.released.0.0, p.records.copied.2), expiries_most c.self.invariant.steady c.self.invariant.lists)
+    (omega (arith, first.released.0.0, few_tasks p.records), expiries_most c.self.invariant.steady c.self.invariant.lists)
 
 -- what is left once the job has lapsed
 after : (g : Over) (c : goal.After-lapse g)

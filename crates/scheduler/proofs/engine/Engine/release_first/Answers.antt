@@ -7,6 +7,7 @@ use Rattle.machine.specs.State.{State}
 use Rattle.machine.specs.Step.{release_of, released_at}
 use Rattle.scheduler.specs.View.{table_of, state_of}
 use Rattle.scheduler.specs.Moves.{released_by}
+use Rattle.scheduler.proofs.Facts.{few_tasks}
 use Rattle.scheduler.proofs.Queues.{first_is}
 use Rattle.scheduler.proofs.Events.{release_step, releases_most}
 use Rattle.scheduler.proofs.Steps.{Left, task_listed, let_out}
@@ -17,7 +18,7 @@ pub release-requires : goal.release-requires
 release-requires g c =
     let p = c.self.inside in
     let first = task_listed c.self.invariant c.in-Some.w c.in-Some.ensures in
-    (omega (arith, first.waiting.0.0, p.records.copied.2), releases_most c.self.invariant.steady c.self.invariant.lists)
+    (omega (arith, first.waiting.0.0, few_tasks p.records), releases_most c.self.invariant.steady c.self.invariant.lists)
 
 -- what is left once the task is released
 after : (g : Over) (c : goal.After-release g)

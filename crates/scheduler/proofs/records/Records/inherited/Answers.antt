@@ -1,18 +1,18 @@
-use Rattle.std.proofs.Common.{rules, ◌≡◌, List, get_or, length, sym, ap, ◌∙◌, arith}
+use Rattle.std.proofs.Common.{slice_index_or, rules, ◌≡◌, List, get_or, length, sym, ap, ◌∙◌, arith}
 use Rattle.std.proofs.lemmas.List.{get_or-take, length-take-le}
 use Rattle.table.specs.declared.records.TaskRecord.{TaskRecord}
 use Rattle.machine.specs.State.{section_at, relative, lowered, or_lower}
 use Rattle.scheduler.specs.declared.stack.OpenSection.{OpenSection}
 use Rattle.scheduler.specs.View.{table_of, opens_of}
 use Rattle.scheduler.proofs.Jobs.{opens_none, opens_more}
-use Rattle.scheduler.proofs.Facts.{no_open, task_at_lem, sections_length, open_within}
+use Rattle.scheduler.proofs.Facts.{no_task, no_open, open_within}
 use Rattle.scheduler.proofs.records.Records.inherited.Goals as goal
 
 pub loop-open-init : goal.loop-open-init
 loop-open-init c =
     let k = c.args.self.now in
     let job = c.args.job.now in
-    ap (λ (t : TaskRecord). t.deadline) (sym (task_at_lem k job.task c.requires.known.0))
+    ap (λ (ts : List TaskRecord). (slice_index_or ts job.task no_task).deadline) c.deref.ensures.0
     ∙ ap (lowered (table_of k) (relative (table_of k) job.task)) (sym (opens_none job.opened))
 
 pub level-requires : goal.level-requires
@@ -23,7 +23,7 @@ level-requires c =
     let few = ap length c.opens-open-items.ensures ∙ length-take-le job.count job.opened (omega (arith, c.requires.known.1)) in
     let at = ap (λ (os : List OpenSection). (get_or os i no_open).section) c.opens-open-items.ensures in
     let at' = ap (λ (o : OpenSection). o.section) (get_or-take job.count job.opened i no_open (omega (arith, few, c.loop-open-test.true))) in
-    omega (arith, at, at', few, open_within (table_of k) job.opened job.count i c.requires.nested (omega (arith, few, c.loop-open-test.true)) (omega (arith, c.requires.known.1)), sections_length k, c.loop-open-test.true)
+    omega (arith, at, at', few, open_within (table_of k) job.opened job.count i c.requires.nested (omega (arith, few, c.loop-open-test.true)) (omega (arith, c.requires.known.1)), c.loop-open-test.true)
 
 pub loop-open-preserved : goal.loop-open-preserved
 loop-open-preserved c =
