@@ -7,12 +7,12 @@ use Rattle.machine.specs.Step.{Outcome, step, refused, selected}
 use Rattle.machine.proofs.Cases.{chosen}
 use Rattle.scheduler.specs.declared.stack.Inner.{Inner}
 use Rattle.scheduler.specs.Answered.{told}
-use Rattle.scheduler.specs.View.{table_of, open_of, opens_of, jobs_of, state_of}
+use Rattle.scheduler.specs.View.{table_of, open_of, opens_of, state_of}
 use Rattle.scheduler.specs.Moves.{top_of, no_open, last_open, with_closed, left_by}
-use Rattle.scheduler.specs.Parts.{Parts, state_in}
+use Rattle.scheduler.specs.Parts.{state_in}
 use Rattle.scheduler.proofs.Jobs.{opens_top}
 use Rattle.scheduler.proofs.Facts.{chained_parts}
-use Rattle.scheduler.proofs.Ghosts.{wide, top_open, top_ghosts}
+use Rattle.scheduler.proofs.Ghosts.{high, wide, top_open, top_ghosts}
 use Rattle.scheduler.proofs.Fits.{top_listed}
 use Rattle.scheduler.proofs.Steps.{left}
 use Rattle.scheduler.proofs.Picks.{running_over}
@@ -87,10 +87,7 @@ module _ (g : Over) (c : goal.After-running g) where
 
 pub returns-clause-value : goal.returns-clause-value
 returns-clause-value g c =
-    let end = c.self-2.inside.inner in
-    let tall = c.self-2.invariant.steady.tall in
-    let runs = c.running.ensures ∙ running_over end (omega (arith, tall.0, tall.2)) ∙ ap (λ (q : Parts _ _). running (jobs_of q.inner.stack q.inner.depth)) c.self-2.view_is
-    ∙ ap (λ (x : State). running x.stack) (reached g c) in
+    let runs = c.running.ensures ∙ running_over c.self-2.inside.inner (high c.self-2.invariant.steady) ∙ ap (λ (x : State). running x.stack) (rw (← c.self-2.view_is) at (reached g c)) in
     rw (← c.self.view_is) (ap Running runs ∙ ap (λ (o : Outcome). told o.answer) (sym (gone_is g c)))
 
 pub returns-clause-after : goal.returns-clause-after

@@ -1,13 +1,7 @@
-use Rattle.std.proofs.Common.{◌≡◌, List, [], sym, refl, ap, ◌∙◌}
+use Rattle.std.proofs.Common.{◌≡◌, [], sym, refl, ◌∙◌}
 use Rattle.std.proofs.lemmas.List.{nil_from_length}
-use Rattle.queue.specs.declared.waiting.Waiting.{Waiting}
-use Rattle.queue.specs.declared.released.Released.{Released}
-use Rattle.table.specs.declared.records.TaskRecord.{TaskRecord}
-use Rattle.table.specs.declared.records.SectionRecord.{SectionRecord}
-use Rattle.machine.specs.State.{Table, first_releases}
-use Rattle.scheduler.specs.declared.stack.Inner.{Inner}
-use Rattle.scheduler.specs.View.{table_of, state_of}
-use Rattle.scheduler.specs.Moves.{fresh}
+use Rattle.machine.specs.State.{Table}
+use Rattle.scheduler.specs.View.{table_of}
 use Rattle.scheduler.proofs.Steps.{left}
 use Rattle.scheduler.proofs.Starts.{served, fresh_ghosts, fresh_listed, fresh_state}
 use Rattle.scheduler.proofs.run_core.Core.new.Goals as goal
@@ -31,10 +25,5 @@ returns-clause-started g c _ =
     let none : rs ≡ [] = nil_from_length rs out.0 in
     let table : Table = table_of k in
     let is : table ≡ record { tasks = pass.tasks.now; sections = pass.sections.now } =
-    c.copy-records.ensures.table
-    ∙ ap (λ (ts : List TaskRecord). record { tasks = ts; sections = c.sections.result.now }) c.tasks.ensures
-    ∙ ap (λ (ss : List SectionRecord). record { tasks = pass.tasks.now; sections = ss }) c.sections.ensures in
-    ap (λ (i : Inner). state_of i (g.W.Queue.list c.fill.new.waiting) rs) c.new.ensures
-    ∙ ap (λ (l : List Waiting). state_of fresh l rs) c.fill.ensures.list
-    ∙ ap (λ (l : List Released). state_of fresh (first_releases 0 k.sizes.tasks) l) none
-    ∙ fresh_state k pass.tasks.now pass.sections.now is
+    rw (c.tasks.ensures, c.sections.ensures) at c.copy-records.ensures.table in
+    rw (c.new.ensures, c.fill.ensures.list, none) (fresh_state k pass.tasks.now pass.sections.now is)
