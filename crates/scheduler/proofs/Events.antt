@@ -1,5 +1,5 @@
 -- What an advance does before selection, over the core's own fields and the queues' lists, is what the machine does.
-use Rattle.std.proofs.Common.{◌≡◌, ℕ, ◌-◌, ◌<◌, true, false, ◌==◌, List, ◌∷◌, length, arith}
+use Rattle.std.proofs.Common.{◌≡◌, ℕ, ◌-◌, ◌<◌, true, false, List, ◌∷◌, length, arith}
 use Rattle.std.proofs.lemmas.Bool.Decides.{nat_tests}
 use Rattle.queue.specs.declared.waiting.Waiting.{Waiting}
 use Rattle.queue.specs.declared.released.Released.{Released}
@@ -54,13 +54,13 @@ module _ {k : Records} {i : Inner} (gh : Steady k i) where
 -- the first released job ends at its deadline
 module _ (k : Table) (i : Inner) (t : ℕ) (ws : List Waiting) (rs : List Released) (e : Released) (es : List Released) (at : rs ≡ e ∷ es) where
   pub lapse_step :
-      (e.deadline == t) ≡ true
+      e.deadline ≡ t
       → lapsed k t (state_of (lapsed_by i e.task) (insert_sorted waiting_before (next_wait k e.task e.deadline) ws) es) es ≡ lapsed k t (state_of i ws rs) rs
-  lapse_step now = grind arith
+  lapse_step now = grind (arith, nat_tests)
 
 -- the first waiting task is released
 module _ (k : Table) (i : Inner) (t : ℕ) (ws : List Waiting) (rs : List Released) (w : Waiting) (rest : List Waiting) (at : ws ≡ w ∷ rest) where
   pub release_step :
-      (w.release == t) ≡ true
+      w.release ≡ t
       → released_at k t (state_of (released_by i w.task) rest (insert_sorted released_before (release_of k w) rs)) rest ≡ released_at k t (state_of i ws rs) ws
-  release_step now = grind arith
+  release_step now = grind (arith, nat_tests)

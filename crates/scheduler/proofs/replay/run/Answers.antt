@@ -1,4 +1,4 @@
-use Rattle.std.proofs.Common.{◌≡◌, ◌<◌, Bool, List, ◌++◌, length, get_or, take, drop, set, sym, ap, ◌∙◌, arith}
+use Rattle.std.proofs.Common.{◌≡◌, ◌<◌, Bool, List, ◌++◌, length, slice_index_or, take, drop, slice_set, sym, ap, ◌∙◌, arith}
 use Rattle.std.proofs.lemmas.List.{take_all}
 use Rattle.machine.specs.declared.call.Call.{Call}
 use Rattle.machine.specs.declared.call.Call.TheVariants.{Advance}
@@ -20,14 +20,14 @@ loop-i-preserved g c =
     let cs = c.args.calls.now in
     let old = c.args.answers.now in
     let i = c.loop-i.i in
-    let call = get_or cs i (Advance 0) in
+    let call = slice_index_or cs i (Advance 0) in
     let inv = c.loop-i.invariant in
     let made = c.make.ensures in
     let room : i < length old = omega (arith, c.loop-i-test.true, c.requires) in (
       made.live ∙ inv.0,
       made.table ∙ inv.1,
       made.after ∙ at_same (λ (b : Bool) (t : Table) (x : State). state_after b t call x) inv.0 inv.1 inv.2 ∙ sym (state_more core.live k cs i (Advance 0) s c.loop-i-test.true),
-      ap (λ (l : List (Answer Refusal)). set l i c.make.result) inv.3
+      ap (λ (l : List (Answer Refusal)). slice_set l i c.make.result) inv.3
           ∙ answers_more core.live k cs i (Advance 0) s old c.make.result c.loop-i-test.true room
           (made.value ∙ at_same (λ (b : Bool) (t : Table) (x : State). answer_of b t call x) inv.0 inv.1 inv.2),
       λ e. made.shut (inv.0 ∙ e) ∙ inv.4 e,
