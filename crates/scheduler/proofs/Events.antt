@@ -35,17 +35,17 @@ module _ {k : Records} {i : Inner} (gh : Steady k i) where
 
   -- the running job ends at its deadline
   module _ (t : ℕ) (ws : List Waiting) (rs : List Released) where
-    pub due_some : is_due i t ≡ true → 0 < i.depth
+    pub due_some : true ≡ is_due i t → 0 < i.depth
     due_some d = grind (arith, nat_tests)
 
-    pub expire_yes : is_due i t ≡ true
+    pub expire_yes : true ≡ is_due i t
         → state_of (expired_by i) (insert_sorted waiting_before (again_of (table_of k) i) ws) rs ≡ top_expired (table_of k) t (state_of i ws rs) (jobs_of i.stack i.depth)
     expire_yes d =
         let count = top_count (due_some d) in
         let top = jobs_top i.stack i.depth (due_some d) (high gh) in
         grind (arith, nat_tests)
 
-    pub expire_no : is_due i t ≡ false → state_of i ws rs ≡ top_expired (table_of k) t (state_of i ws rs) (jobs_of i.stack i.depth)
+    pub expire_no : false ≡ is_due i t → state_of i ws rs ≡ top_expired (table_of k) t (state_of i ws rs) (jobs_of i.stack i.depth)
     expire_no d =
         let none = jobs_none i.stack in
         let top = λ (some : 0 < i.depth). jobs_top i.stack i.depth some (high gh) in

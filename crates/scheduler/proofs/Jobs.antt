@@ -1,5 +1,5 @@
 -- Arrays that are filled from the front, read as lists with the last first: jobs on the stack, and open sections of a job.
-use Rattle.std.proofs.Common.{◌≡◌, ℕ, ◌+◌, ◌-◌, ◌<◌, ◌≤◌, Bool, ◌||◌, List, [], ◌∷◌, map, reverse, length, slice_index_or, take, slice_set, refl, ap, ◌∙◌, arith}
+use Rattle.std.proofs.Common.{◌≡◌, ℕ, ◌+◌, ◌-◌, ◌<◌, ◌≤◌, Bool, List, [], ◌∷◌, map, reverse, length, slice_index_or, take, slice_set, refl, ap, ◌∙◌, arith}
 use Rattle.std.proofs.lemmas.List.{take_more, take_more_set, reverse-append, length-reverse, length-map, length-take-le}
 use Rattle.std.proofs.lemmas.List.Sorted.{list_any-IsPermutation, IsPermutation-reverse}
 use Rattle.std.specs.List.{list_any}
@@ -19,14 +19,10 @@ module _ {X : Type 0} where
   last_more xs n d h = ap reverse (take_more xs n d h) ∙ reverse-append (take n xs) (slice_index_or xs n d ∷ [])
 
   last_first : (xs : List X) (n : ℕ) (d : X) → 0 < n → n ≤ length xs → reverse (take n xs) ≡ slice_index_or xs (n - 1) d ∷ reverse (take (n - 1) xs)
-  last_first xs n d p h =
-      let e : n ≡ (n - 1) + 1 = omega arith in
-      ap (λ m. reverse (take m xs)) e ∙ last_more xs (n - 1) d (omega arith)
+  last_first xs n d p h = let e : (n - 1) + 1 ≡ n = omega arith in rw e at (last_more xs (n - 1) d (omega arith))
 
   set_last : (xs : List X) (n : ℕ) (x : X) → 0 < n → n ≤ length xs → reverse (take n (slice_set xs (n - 1) x)) ≡ x ∷ reverse (take (n - 1) xs)
-  set_last xs n x p h =
-      let e : n ≡ (n - 1) + 1 = omega arith in
-      ap (λ m. reverse (take m (slice_set xs (n - 1) x))) e ∙ put_last xs (n - 1) x (omega arith)
+  set_last xs n x p h = let e : (n - 1) + 1 ≡ n = omega arith in rw e at (put_last xs (n - 1) x (omega arith))
 
 -- jobs
 pub jobs_none : (rs : List StackRecord) → jobs_of rs 0 ≡ []
@@ -81,7 +77,7 @@ module _ (g : Ticket) where
 
   among_map : (os : List OpenSection) → list_any for_grant os ≡ among_open g (map open_of os)
   among_map [] = refl
-  among_map (o ∷ os) = ap (λ b. for_grant o || b) (among_map os)
+  among_map (o ∷ os) = let ih = among_map os in grind arith
 
   pub among_any : (os : List OpenSection) (n : ℕ) → list_any for_grant (take n os) ≡ among_open g (opens_of os n)
   unfolding opens_of
