@@ -34,15 +34,15 @@ module _ {k : Records} {i : Inner} (gh : Steady k i) where
     finishes_most = omega (arith, releases_few gh li, li.jobs)
 
   -- the running job ends at its deadline
-  module _ (t : ℕ) (ws : List Waiting) (rs : List Released) where
-    pub due_some : true ≡ is_due i t → 0 < i.depth
-    due_some d = grind (arith, nat_tests)
+  pub due_some : (t : ℕ) → true ≡ is_due i t → 0 < i.depth
+  due_some t d = grind (arith, nat_tests)
 
+  module _ (t : ℕ) (ws : List Waiting) (rs : List Released) where
     pub expire_yes : true ≡ is_due i t
         → state_of (expired_by i) (insert_sorted waiting_before (again_of (table_of k) i) ws) rs ≡ top_expired (table_of k) t (state_of i ws rs) (jobs_of i.stack i.depth)
     expire_yes d =
-        let count = top_count (due_some d) in
-        let top = jobs_top i.stack i.depth (due_some d) (high gh) in
+        let count = top_count (due_some t d) in
+        let top = jobs_top i.stack i.depth (due_some t d) (high gh) in
         grind (arith, nat_tests)
 
     pub expire_no : false ≡ is_due i t → state_of i ws rs ≡ top_expired (table_of k) t (state_of i ws rs) (jobs_of i.stack i.depth)

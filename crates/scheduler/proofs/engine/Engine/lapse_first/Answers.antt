@@ -40,4 +40,4 @@ returns-clause-same g c =
     let rs = g.R.Queue.list p.released in
     rw (← c.self.view_is)
     (ap (λ (s : State). lapsed k c.args.t s s.released) (after g c).state
-    ∙ lapse_step k p.inner c.args.t (g.W.Queue.list p.waiting) rs e (rest_of rs) (first_is rs e c.in-Some.ensures) c.if-e-t.false)
+    ∙ lapse_step k p.inner c.args.t _ _ e (rest_of rs) (first_is rs e c.in-Some.ensures) c.if-e-t.false)
