@@ -1,4 +1,4 @@
-use Rattle.std.proofs.Common.{◌≡◌, [], sym, refl, ◌∙◌}
+use Rattle.std.proofs.Common.{◌≡◌, [], refl}
 use Rattle.std.proofs.lemmas.List.{nil_from_length}
 use Rattle.machine.specs.State.{Table}
 use Rattle.scheduler.specs.View.{table_of}
@@ -10,8 +10,8 @@ pub invariant_of-engine : goal.invariant_of-engine
 invariant_of-engine g c =
     let k = c.copy-records.result in
     let rs = g.R.Queue.list c.args.released in
-    let in-wait = served _ _ _ (sym c.serves.ensures ∙ c.if-not-serves.false) in
-    let out = served _ _ _ (sym c.serves-else-not-serves.ensures ∙ c.if-not-serves-2.false) in
+    let in-wait = served _ _ _ c.serves.ensures c.if-not-serves.false in
+    let out = served _ _ _ c.serves-else-not-serves.ensures c.if-not-serves-2.false in
     let none : rs ≡ [] = nil_from_length rs out.0 in
     (left c.new.ensures c.fill.ensures.list none c.fill.ensures.capacity refl c.fill.ensures.ordered c.requires.ordered.1 (fresh_ghosts k)
     (fresh_listed k (g.W.Queue.capacity c.args.waiting) (g.R.Queue.capacity c.args.released) in-wait.1 out.1)).fits
@@ -21,7 +21,7 @@ returns-clause-started g c _ =
     let k = c.copy-records.result in
     let pass = c.args.pass in
     let rs = g.R.Queue.list c.args.released in
-    let out = served _ _ _ (sym c.serves-else-not-serves.ensures ∙ c.if-not-serves-2.false) in
+    let out = served _ _ _ c.serves-else-not-serves.ensures c.if-not-serves-2.false in
     let none : rs ≡ [] = nil_from_length rs out.0 in
     let table : Table = table_of k in
     let is : table ≡ record { tasks = pass.tasks.now; sections = pass.sections.now } =
