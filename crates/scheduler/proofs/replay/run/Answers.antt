@@ -1,4 +1,4 @@
-use Rattle.std.proofs.Common.{◌≡◌, ◌<◌, Bool, length, slice_index_or, take, sym, ◌∙◌, arith}
+use Rattle.std.proofs.Common.{◌≡◌, ◌<◌, Bool, length, slice_index_or, take, ◌∙◌, arith}
 use Rattle.std.proofs.lemmas.List.{take_all}
 use Rattle.machine.specs.declared.call.Call.TheVariants.{Advance}
 use Rattle.machine.specs.State.{Table, State}
@@ -22,7 +22,7 @@ loop-i-preserved g c =
     let room : i < length old = omega (arith, c.loop-i-test.true, c.requires) in (
       made.live ∙ inv.0,
       made.table ∙ inv.1,
-      made.after ∙ at_same (λ (b : Bool) (t : Table) (x : State). state_after b t call x) inv.0 inv.1 inv.2 ∙ sym (state_more core.live k cs i (Advance 0) s c.loop-i-test.true),
+      rw (state_more core.live k cs i (Advance 0) s c.loop-i-test.true) (made.after ∙ at_same (λ (b : Bool) (t : Table) (x : State). state_after b t call x) inv.0 inv.1 inv.2),
       rw inv.3
           (answers_more core.live k cs i (Advance 0) s old c.make.result c.loop-i-test.true room
           (made.value ∙ at_same (λ (b : Bool) (t : Table) (x : State). answer_of b t call x) inv.0 inv.1 inv.2)),

@@ -1,6 +1,5 @@
 use Rattle.std.proofs.Common.{◌≡◌, [], refl}
 use Rattle.std.proofs.lemmas.List.{nil_from_length}
-use Rattle.machine.specs.State.{Table}
 use Rattle.scheduler.specs.View.{table_of}
 use Rattle.scheduler.proofs.Steps.{left}
 use Rattle.scheduler.proofs.Starts.{served, fresh_ghosts, fresh_listed, fresh_state}
@@ -23,7 +22,6 @@ returns-clause-started g c _ =
     let rs = g.R.Queue.list c.args.released in
     let out = served _ _ _ c.serves-else-not-serves.ensures c.if-not-serves-2.false in
     let none : rs ≡ [] = nil_from_length rs out.0 in
-    let table : Table = table_of k in
-    let is : table ≡ record { tasks = pass.tasks.now; sections = pass.sections.now } =
+    let is : table_of k ≡ record { tasks = pass.tasks.now; sections = pass.sections.now } =
     rw (c.tasks.ensures, c.sections.ensures) at c.copy-records.ensures.table in
     rw (c.new.ensures, c.fill.ensures.list, none) (fresh_state k pass.tasks.now pass.sections.now is)
