@@ -1,5 +1,5 @@
 -- What an advance does before selection, over the core's own fields and the queues' lists, is what the machine does.
-use Rattle.std.proofs.Common.{◌≡◌, ℕ, ◌-◌, ◌<◌, true, false, ◌==◌, List, ◌∷◌, length, arith}
+use Rattle.std.proofs.Common.{◌≡◌, ℕ, ◌-◌, ◌<◌, true, false, List, ◌∷◌, length, arith}
 use Rattle.std.proofs.lemmas.Bool.Decides.{nat_tests}
 use Rattle.queue.specs.declared.waiting.Waiting.{Waiting}
 use Rattle.queue.specs.declared.released.Released.{Released}
@@ -34,18 +34,18 @@ module _ {k : Records} {i : Inner} (gh : Steady k i) where
     finishes_most = omega (arith, releases_few gh li, li.jobs)
 
   -- the running job ends at its deadline
-  module _ (t : ℕ) (ws : List Waiting) (rs : List Released) where
-    pub due_some : is_due i t ≡ true → 0 < i.depth
-    due_some d = grind (arith, nat_tests)
+  pub due_some : (t : ℕ) → true ≡ is_due i t → 0 < i.depth
+  due_some t d = grind (arith, nat_tests)
 
-    pub expire_yes : is_due i t ≡ true
+  module _ (t : ℕ) (ws : List Waiting) (rs : List Released) where
+    pub expire_yes : true ≡ is_due i t
         → state_of (expired_by i) (insert_sorted waiting_before (again_of (table_of k) i) ws) rs ≡ top_expired (table_of k) t (state_of i ws rs) (jobs_of i.stack i.depth)
     expire_yes d =
-        let count = top_count (due_some d) in
-        let top = jobs_top i.stack i.depth (due_some d) (high gh) in
+        let count = top_count (due_some t d) in
+        let top = jobs_top i.stack i.depth (due_some t d) (high gh) in
         grind (arith, nat_tests)
 
-    pub expire_no : is_due i t ≡ false → state_of i ws rs ≡ top_expired (table_of k) t (state_of i ws rs) (jobs_of i.stack i.depth)
+    pub expire_no : false ≡ is_due i t → state_of i ws rs ≡ top_expired (table_of k) t (state_of i ws rs) (jobs_of i.stack i.depth)
     expire_no d =
         let none = jobs_none i.stack in
         let top = λ (some : 0 < i.depth). jobs_top i.stack i.depth some (high gh) in
@@ -54,13 +54,13 @@ module _ {k : Records} {i : Inner} (gh : Steady k i) where
 -- the first released job ends at its deadline
 module _ (k : Table) (i : Inner) (t : ℕ) (ws : List Waiting) (rs : List Released) (e : Released) (es : List Released) (at : rs ≡ e ∷ es) where
   pub lapse_step :
-      (e.deadline == t) ≡ true
+      e.deadline ≡ t
       → lapsed k t (state_of (lapsed_by i e.task) (insert_sorted waiting_before (next_wait k e.task e.deadline) ws) es) es ≡ lapsed k t (state_of i ws rs) rs
-  lapse_step now = grind arith
+  lapse_step now = grind (arith, nat_tests)
 
 -- the first waiting task is released
 module _ (k : Table) (i : Inner) (t : ℕ) (ws : List Waiting) (rs : List Released) (w : Waiting) (rest : List Waiting) (at : ws ≡ w ∷ rest) where
   pub release_step :
-      (w.release == t) ≡ true
+      w.release ≡ t
       → released_at k t (state_of (released_by i w.task) rest (insert_sorted released_before (release_of k w) rs)) rest ≡ released_at k t (state_of i ws rs) ws
-  release_step now = grind arith
+  release_step now = grind (arith, nat_tests)

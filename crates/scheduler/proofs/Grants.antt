@@ -101,12 +101,12 @@ module _ {k : Records} {i : Inner} (gh : Steady k i) (g : Ticket) where
       ]
 
   -- what a leave that is accepted finds
-  pub leave_some : innermost_for g i ≡ true → (0 < i.depth) × (0 < (top_of i).count)
+  pub leave_some : true ≡ innermost_for g i → (0 < i.depth) × (0 < (top_of i).count)
   leave_some e = grind (arith, nat_tests)
 
   module _ (ws : List WaitingEntry) (rs : List ReleasedEntry) where
     pub leave_is :
-        {a b : Bool} → innermost_for g i ≡ a → opened_for g i ≡ b
+        {a b : Bool} → a ≡ innermost_for g i → b ≡ opened_for g i
         → step (table_of k) (Leave g) (state_of i ws rs)
         ≡ (if a then chosen (table_of k) (state_of (left_by i) ws rs) else if b then refused (state_of i ws rs) (NotInnermost g) else refused (state_of i ws rs) NotOpen)
     unfolding step

@@ -1,5 +1,5 @@
 -- Arrays that are filled from the front, read as lists with the last first: jobs on the stack, and open sections of a job.
-use Rattle.std.proofs.Common.{◌≡◌, ℕ, ◌+◌, ◌-◌, ◌<◌, ◌≤◌, Bool, ◌||◌, List, [], ◌∷◌, map, reverse, length, get_or, take, set, refl, ap, ◌∙◌, arith}
+use Rattle.std.proofs.Common.{◌≡◌, ℕ, ◌+◌, ◌-◌, ◌<◌, ◌≤◌, Bool, List, [], ◌∷◌, map, reverse, length, slice_index_or, take, slice_set, refl, ap, ◌∙◌, arith}
 use Rattle.std.proofs.lemmas.List.{take_more, take_more_set, reverse-append, length-reverse, length-map, length-take-le}
 use Rattle.std.proofs.lemmas.List.Sorted.{list_any-IsPermutation, IsPermutation-reverse}
 use Rattle.std.specs.List.{list_any}
@@ -12,40 +12,36 @@ use Rattle.scheduler.specs.Steady.{no_record}
 
 -- the first n of an array, the last first
 module _ {X : Type 0} where
-  put_last : (xs : List X) (n : ℕ) (x : X) → n < length xs → reverse (take (n + 1) (set xs n x)) ≡ x ∷ reverse (take n xs)
+  put_last : (xs : List X) (n : ℕ) (x : X) → n < length xs → reverse (take (n + 1) (slice_set xs n x)) ≡ x ∷ reverse (take n xs)
   put_last xs n x h = ap reverse (take_more_set xs n x h) ∙ reverse-append (take n xs) (x ∷ [])
 
-  last_more : (xs : List X) (n : ℕ) (d : X) → n < length xs → reverse (take (n + 1) xs) ≡ get_or xs n d ∷ reverse (take n xs)
-  last_more xs n d h = ap reverse (take_more xs n d h) ∙ reverse-append (take n xs) (get_or xs n d ∷ [])
+  last_more : (xs : List X) (n : ℕ) (d : X) → n < length xs → reverse (take (n + 1) xs) ≡ slice_index_or xs n d ∷ reverse (take n xs)
+  last_more xs n d h = ap reverse (take_more xs n d h) ∙ reverse-append (take n xs) (slice_index_or xs n d ∷ [])
 
-  last_first : (xs : List X) (n : ℕ) (d : X) → 0 < n → n ≤ length xs → reverse (take n xs) ≡ get_or xs (n - 1) d ∷ reverse (take (n - 1) xs)
-  last_first xs n d p h =
-      let e : n ≡ (n - 1) + 1 = omega arith in
-      ap (λ m. reverse (take m xs)) e ∙ last_more xs (n - 1) d (omega arith)
+  last_first : (xs : List X) (n : ℕ) (d : X) → 0 < n → n ≤ length xs → reverse (take n xs) ≡ slice_index_or xs (n - 1) d ∷ reverse (take (n - 1) xs)
+  last_first xs n d p h = let e : (n - 1) + 1 ≡ n = omega arith in rw e at (last_more xs (n - 1) d (omega arith))
 
-  set_last : (xs : List X) (n : ℕ) (x : X) → 0 < n → n ≤ length xs → reverse (take n (set xs (n - 1) x)) ≡ x ∷ reverse (take (n - 1) xs)
-  set_last xs n x p h =
-      let e : n ≡ (n - 1) + 1 = omega arith in
-      ap (λ m. reverse (take m (set xs (n - 1) x))) e ∙ put_last xs (n - 1) x (omega arith)
+  set_last : (xs : List X) (n : ℕ) (x : X) → 0 < n → n ≤ length xs → reverse (take n (slice_set xs (n - 1) x)) ≡ x ∷ reverse (take (n - 1) xs)
+  set_last xs n x p h = let e : (n - 1) + 1 ≡ n = omega arith in rw e at (put_last xs (n - 1) x (omega arith))
 
 -- jobs
 pub jobs_none : (rs : List StackRecord) → jobs_of rs 0 ≡ []
 unfolding jobs_of
 jobs_none rs = refl
 
-pub jobs_push : (rs : List StackRecord) (n : ℕ) (r : StackRecord) → n < length rs → jobs_of (set rs n r) (n + 1) ≡ job_of r ∷ jobs_of rs n
+pub jobs_push : (rs : List StackRecord) (n : ℕ) (r : StackRecord) → n < length rs → jobs_of (slice_set rs n r) (n + 1) ≡ job_of r ∷ jobs_of rs n
 unfolding jobs_of
 jobs_push rs n r h = ap (map job_of) (put_last rs n r h)
 
-pub jobs_top : (rs : List StackRecord) (n : ℕ) → 0 < n → n ≤ length rs → jobs_of rs n ≡ job_of (get_or rs (n - 1) no_record) ∷ jobs_of rs (n - 1)
+pub jobs_top : (rs : List StackRecord) (n : ℕ) → 0 < n → n ≤ length rs → jobs_of rs n ≡ job_of (slice_index_or rs (n - 1) no_record) ∷ jobs_of rs (n - 1)
 unfolding jobs_of
 jobs_top rs n p h = ap (map job_of) (last_first rs n no_record p h)
 
-pub jobs_more : (rs : List StackRecord) (n : ℕ) → n < length rs → jobs_of rs (n + 1) ≡ job_of (get_or rs n no_record) ∷ jobs_of rs n
+pub jobs_more : (rs : List StackRecord) (n : ℕ) → n < length rs → jobs_of rs (n + 1) ≡ job_of (slice_index_or rs n no_record) ∷ jobs_of rs n
 unfolding jobs_of
 jobs_more rs n h = ap (map job_of) (last_more rs n no_record h)
 
-pub jobs_set : (rs : List StackRecord) (n : ℕ) (r : StackRecord) → 0 < n → n ≤ length rs → jobs_of (set rs (n - 1) r) n ≡ job_of r ∷ jobs_of rs (n - 1)
+pub jobs_set : (rs : List StackRecord) (n : ℕ) (r : StackRecord) → 0 < n → n ≤ length rs → jobs_of (slice_set rs (n - 1) r) n ≡ job_of r ∷ jobs_of rs (n - 1)
 unfolding jobs_of
 jobs_set rs n r p h = ap (map job_of) (set_last rs n r p h)
 
@@ -58,15 +54,15 @@ pub opens_none : (os : List OpenSection) → opens_of os 0 ≡ []
 unfolding opens_of
 opens_none os = refl
 
-pub opens_push : (os : List OpenSection) (n : ℕ) (o : OpenSection) → n < length os → opens_of (set os n o) (n + 1) ≡ open_of o ∷ opens_of os n
+pub opens_push : (os : List OpenSection) (n : ℕ) (o : OpenSection) → n < length os → opens_of (slice_set os n o) (n + 1) ≡ open_of o ∷ opens_of os n
 unfolding opens_of
 opens_push os n o h = ap (map open_of) (put_last os n o h)
 
-pub opens_more : (os : List OpenSection) (n : ℕ) (d : OpenSection) → n < length os → opens_of os (n + 1) ≡ open_of (get_or os n d) ∷ opens_of os n
+pub opens_more : (os : List OpenSection) (n : ℕ) (d : OpenSection) → n < length os → opens_of os (n + 1) ≡ open_of (slice_index_or os n d) ∷ opens_of os n
 unfolding opens_of
 opens_more os n d h = ap (map open_of) (last_more os n d h)
 
-pub opens_top : (os : List OpenSection) (n : ℕ) (d : OpenSection) → 0 < n → n ≤ length os → opens_of os n ≡ open_of (get_or os (n - 1) d) ∷ opens_of os (n - 1)
+pub opens_top : (os : List OpenSection) (n : ℕ) (d : OpenSection) → 0 < n → n ≤ length os → opens_of os n ≡ open_of (slice_index_or os (n - 1) d) ∷ opens_of os (n - 1)
 unfolding opens_of
 opens_top os n d p h = ap (map open_of) (last_first os n d p h)
 
@@ -81,7 +77,7 @@ module _ (g : Ticket) where
 
   among_map : (os : List OpenSection) → list_any for_grant os ≡ among_open g (map open_of os)
   among_map [] = refl
-  among_map (o ∷ os) = ap (λ b. for_grant o || b) (among_map os)
+  among_map (o ∷ os) = let ih = among_map os in grind arith
 
   pub among_any : (os : List OpenSection) (n : ℕ) → list_any for_grant (take n os) ≡ among_open g (opens_of os n)
   unfolding opens_of

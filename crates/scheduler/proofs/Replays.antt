@@ -1,5 +1,5 @@
 -- Lists of calls: one call more, and what they come to on a core that runs and on a shut one.
-use Rattle.std.proofs.Common.{◌≡◌, ℕ, suc, ◌+◌, ◌<◌, Bool, true, false, List, [], ◌∷◌, ◌++◌, map, length, get_or, take, drop, set, replicate, sym, refl, ap, ◌∙◌, append_assoc, arith, length-take}
+use Rattle.std.proofs.Common.{◌≡◌, ℕ, suc, ◌+◌, ◌<◌, Bool, true, false, List, [], ◌∷◌, ◌++◌, map, length, slice_index_or, take, drop, slice_set, replicate, sym, refl, ap, ◌∙◌, append_assoc, arith, length-take}
 use Rattle.std.proofs.lemmas.List.{take_more, drop_more, set_at}
 use Rattle.machine.specs.declared.call.Call.{Call}
 use Rattle.machine.specs.State.{Table, State, start}
@@ -21,8 +21,7 @@ use Rattle.scheduler.specs.Replayed.{answers_from, state_from, Ran, AllShut}
 
 -- the same core, the same records and the same state give the same
 pub at_same : {X : Type 0} (f : Bool → Table → State → X) {live on : Bool} {k m : Records} {s t : State} → live ≡ on → k ≡ m → s ≡ t → f live (table_of k) s ≡ f on (table_of m) t
-at_same f {live = live} {on = on} {k = k} {m = m} {s = s} {t = t} a b c =
-    ap (λ (x : Bool). f x (table_of k) s) a ∙ ap (λ (x : Records). f on (table_of x) s) b ∙ ap (f on (table_of m)) c
+at_same f a b c = rw (a, b, c)
 
 module _ (live : Bool) (k : Table) where
   state_push : (cs : List Call) (c : Call) (s : State) → state_from live k (cs ++ c ∷ []) s ≡ state_after live k c (state_from live k cs s)
@@ -31,61 +30,49 @@ module _ (live : Bool) (k : Table) where
 
   answers_push : (cs : List Call) (c : Call) (s : State) → answers_from live k (cs ++ c ∷ []) s ≡ answers_from live k cs s ++ answer_of live k c (state_from live k cs s) ∷ []
   answers_push [] c s = refl
-  answers_push (x ∷ cs) c s = ap (λ (l : List (Answer Refusal)). answer_of live k x s ∷ l) (answers_push cs c (state_after live k x s))
+  answers_push (x ∷ cs) c s = let ih = answers_push cs c (state_after live k x s) in cc
 
   answers_length : (cs : List Call) (s : State) → length (answers_from live k cs s) ≡ length cs
   answers_length [] s = refl
   answers_length (x ∷ cs) s = ap suc (answers_length cs (state_after live k x s))
 
   -- the state after one call more
-  pub state_more : (cs : List Call) (i : ℕ) (c : Call) (s : State) → i < length cs → state_from live k (take (i + 1) cs) s ≡ state_after live k (get_or cs i c) (state_from live k (take i cs) s)
-  state_more cs i c s h = ap (λ (l : List Call). state_from live k l s) (take_more cs i c h) ∙ state_push (take i cs) (get_or cs i c) s
+  pub state_more : (cs : List Call) (i : ℕ) (c : Call) (s : State) → i < length cs → state_from live k (take (i + 1) cs) s ≡ state_after live k (slice_index_or cs i c) (state_from live k (take i cs) s)
+  state_more cs i c s h = rw (take_more cs i c h) (state_push (take i cs) (slice_index_or cs i c) s)
 
   -- one answer more
-  pub answers_more : (cs : List Call) (i : ℕ) (c : Call) (s : State) (old : List (Answer Refusal)) (a : Answer Refusal) → i < length cs → i < length old → a ≡ answer_of live k (get_or cs i c) (state_from live k (take i cs) s)
-      → set (answers_from live k (take i cs) s ++ drop i old) i a ≡ answers_from live k (take (i + 1) cs) s ++ drop (i + 1) old
+  pub answers_more : (cs : List Call) (i : ℕ) (c : Call) (s : State) (old : List (Answer Refusal)) (a : Answer Refusal) → i < length cs → i < length old → a ≡ answer_of live k (slice_index_or cs i c) (state_from live k (take i cs) s)
+      → slice_set (answers_from live k (take i cs) s ++ drop i old) i a ≡ answers_from live k (take (i + 1) cs) s ++ drop (i + 1) old
   answers_more cs i c s old a h room e =
       let so_far = answers_from live k (take i cs) s in
       let n : length so_far ≡ i = answers_length (take i cs) s ∙ length-take i cs ∙ omega arith in
-      ap (λ (l : List (Answer Refusal)). set (so_far ++ l) i a) (drop_more old i a room)
-      ∙ set_at so_far (get_or old i a) (drop (i + 1) old) a i n
-      ∙ ap (λ (x : Answer Refusal). so_far ++ x ∷ drop (i + 1) old) e
-      ∙ sym (append_assoc so_far (answer_of live k (get_or cs i c) (state_from live k (take i cs) s) ∷ []) (drop (i + 1) old))
-      ∙ ap (λ (l : List (Answer Refusal)). l ++ drop (i + 1) old) (sym (answers_push (take i cs) (get_or cs i c) s))
-      ∙ ap (λ (l : List Call). answers_from live k l s ++ drop (i + 1) old) (sym (take_more cs i c h))
+      rw (drop_more old i a room, set_at so_far (slice_index_or old i a) (drop (i + 1) old) a i n, e, take_more cs i c h, answers_push (take i cs) (slice_index_or cs i c) s)
+      (sym (append_assoc so_far (answer_of live k (slice_index_or cs i c) (state_from live k (take i cs) s) ∷ []) (drop (i + 1) old)))
 
 module _ (k : Table) where
   -- a core that runs does what the machine does
   live_answers : (cs : List Call) (s : State) → answers_from true k cs s ≡ map told (answers_of (history_from k s cs))
   live_answers [] s = refl
-  live_answers (c ∷ cs) s = ap (λ (l : List (Answer Refusal)). told (step k c s).answer ∷ l) (live_answers cs (step k c s).state)
+  live_answers (c ∷ cs) s = let ih = live_answers cs (step k c s).state in cc
 
   live_state : (cs : List Call) (s : State) → state_from true k cs s ≡ machine_from k s cs
   live_state [] s = refl
   live_state (c ∷ cs) s = live_state cs (step k c s).state
 
-  -- a shut one refuses, and stays as it is
+  -- a shut one refuses
   shut_answers : (cs : List Call) (s : State) → answers_from false k cs s ≡ replicate (length cs) (Refused Shut)
   shut_answers [] s = refl
-  shut_answers (c ∷ cs) s = ap (λ (l : List (Answer Refusal)). Refused Shut ∷ l) (shut_answers cs s)
-
-  shut_state : (cs : List Call) (s : State) → state_from false k cs s ≡ s
-  shut_state [] s = refl
-  shut_state (c ∷ cs) s = shut_state cs s
+  shut_answers (c ∷ cs) s = let ih = shut_answers cs s in cc
 
 -- a core's run, by whether it is live
 module _ (live : Bool) (k : Table) (cs : List Call) (s : State) where
   pub ran : (answers old : List (Answer Refusal)) (end : State) → answers ≡ answers_from live k cs s ++ drop (length cs) old → end ≡ state_from live k cs s
       → (t : Table) (idle : ℕ) → Admitted t.tasks t.sections idle → live ≡ true → k ≡ t → s ≡ start t → Ran t cs answers old end
   ran answers old end value after t idle ad on is from = record {
-    answered = value ∙ ap (λ (l : List (Answer Refusal)). l ++ drop (length cs) old)
-        (ap (λ (b : Bool). answers_from b k cs s) on ∙ ap (λ (x : Table). answers_from true x cs s) is ∙ ap (answers_from true t cs) from ∙ live_answers t cs (start t));
-    state = after ∙ ap (λ (b : Bool). state_from b k cs s) on ∙ ap (λ (x : Table). state_from true x cs s) is ∙ ap (state_from true t cs) from ∙ live_state t cs (start t);
+    answered = rw (← live_answers t cs (start t), ← from, ← is, ← on) value;
+    state = rw (after, on, is, from) (live_state t cs (start t));
     promised = λ n _. every_run t idle ad (take n cs);
   }
 
   pub all_shut : (answers old : List (Answer Refusal)) → answers ≡ answers_from live k cs s ++ drop (length cs) old → live ≡ false → AllShut cs answers old
-  all_shut answers old value off = value ∙ ap (λ (l : List (Answer Refusal)). l ++ drop (length cs) old) (ap (λ (b : Bool). answers_from b k cs s) off ∙ shut_answers k cs s)
-
-  pub stays : (end : State) → end ≡ state_from live k cs s → live ≡ false → end ≡ s
-  stays end after off = after ∙ ap (λ (b : Bool). state_from b k cs s) off ∙ shut_state k cs s
+  all_shut answers old value off = rw (value, off, shut_answers k cs s)

@@ -1,5 +1,5 @@
 -- A new core: every task is put into the waiting queue in turn, and what it keeps is sound.
-use Rattle.std.proofs.Common.{◌≡◌, ℕ, zero, suc, ◌+◌, ◌<◌, ◌≤◌, true, false, ◌&&◌, ◌==◌, nat_le, ◌≢◌, List, [], ◌∷◌, length, sym, refl, ap, ◌∙◌, add-zero, zero-add, add-one, arith}
+use Rattle.std.proofs.Common.{◌≡◌, Bool, ℕ, zero, suc, ◌+◌, ◌<◌, ◌≤◌, true, false, ◌&&◌, ◌==◌, nat_le, ◌≢◌, List, [], ◌∷◌, length, sym, refl, ap, ◌∙◌, add-zero, zero-add, add-one, arith}
 use Rattle.std.specs.List.{AllByRecursion}
 use Rattle.std.proofs.lemmas.Simd.{get_or-replicate}
 use Rattle.std.proofs.lemmas.Bool.Decides.{nat_tests}
@@ -109,5 +109,5 @@ module _ (k : Records) where
       ∙ ap (λ (js : List Job). record { clock = 0; waiting = first_releases 0 (length tasks); released = []; stack = js; counts = tally_of fresh.counts }) (jobs_none fresh.stack)
 
 -- a queue that can serve the tasks
-pub served : (a n room : ℕ) → (a == 0 && nat_le n room) ≡ true → (a ≡ 0) × (n ≤ room)
-served a n room e = grind (arith, nat_tests)
+pub served : (a n room : ℕ) {b : Bool} → b ≡ (a == 0 && nat_le n room) → b ≡ true → (a ≡ 0) × (n ≤ room)
+served a n room e on = grind (arith, nat_tests)

@@ -1,14 +1,10 @@
-use Rattle.std.proofs.Common.{◌≡◌, ◌<◌, Bool, List, ◌++◌, length, get_or, take, drop, set, sym, ap, ◌∙◌, arith}
+use Rattle.std.proofs.Common.{◌≡◌, ◌<◌, Bool, length, slice_index_or, take, ◌∙◌, arith}
 use Rattle.std.proofs.lemmas.List.{take_all}
-use Rattle.machine.specs.declared.call.Call.{Call}
 use Rattle.machine.specs.declared.call.Call.TheVariants.{Advance}
-use Rattle.machine.specs.declared.call.Answer.{Answer}
-use Rattle.scheduler.specs.declared.answer.Refusal.{Refusal}
 use Rattle.machine.specs.State.{Table, State}
 use Rattle.scheduler.specs.View.{table_of}
 use Rattle.scheduler.specs.Parts.{view}
 use Rattle.scheduler.specs.Calls.{answer_of, state_after}
-use Rattle.scheduler.specs.Replayed.{answers_from, state_from}
 use Rattle.scheduler.proofs.Replays.{at_same, state_more, answers_more}
 use Rattle.scheduler.proofs.replay.run.Goals as goal
 
@@ -20,16 +16,16 @@ loop-i-preserved g c =
     let cs = c.args.calls.now in
     let old = c.args.answers.now in
     let i = c.loop-i.i in
-    let call = get_or cs i (Advance 0) in
+    let call = slice_index_or cs i (Advance 0) in
     let inv = c.loop-i.invariant in
     let made = c.make.ensures in
     let room : i < length old = omega (arith, c.loop-i-test.true, c.requires) in (
       made.live ∙ inv.0,
       made.table ∙ inv.1,
-      made.after ∙ at_same (λ (b : Bool) (t : Table) (x : State). state_after b t call x) inv.0 inv.1 inv.2 ∙ sym (state_more core.live k cs i (Advance 0) s c.loop-i-test.true),
-      ap (λ (l : List (Answer Refusal)). set l i c.make.result) inv.3
-          ∙ answers_more core.live k cs i (Advance 0) s old c.make.result c.loop-i-test.true room
-          (made.value ∙ at_same (λ (b : Bool) (t : Table) (x : State). answer_of b t call x) inv.0 inv.1 inv.2),
+      rw (state_more core.live k cs i (Advance 0) s c.loop-i-test.true) (made.after ∙ at_same (λ (b : Bool) (t : Table) (x : State). state_after b t call x) inv.0 inv.1 inv.2),
+      rw inv.3
+          (answers_more core.live k cs i (Advance 0) s old c.make.result c.loop-i-test.true room
+          (made.value ∙ at_same (λ (b : Bool) (t : Table) (x : State). answer_of b t call x) inv.0 inv.1 inv.2)),
       λ e. made.shut (inv.0 ∙ e) ∙ inv.4 e,
     )
 
@@ -43,10 +39,11 @@ returns g c =
     let i = c.loop-i.i in
     let inv = c.loop-i.invariant in
     let all : take i cs ≡ cs = take_all i cs c.loop-i-test.false in
+    let end : i ≡ length cs = omega arith in
     record {
       live = inv.0;
       table = inv.1;
       shut = inv.4;
-      value = inv.3 ∙ ap (λ (l : List Call). answers_from core.live k l s ++ drop i old) all ∙ ap (λ n. answers_from core.live k cs s ++ drop n old) (omega arith);
-      after = inv.2 ∙ ap (λ (l : List Call). state_from core.live k l s) all;
+      value = rw (inv.3, all, end);
+      after = rw (inv.2, all);
     }

@@ -2,13 +2,13 @@ use Rattle.std.proofs.Common.{rules, ◌≡◌, ◌+◌, ◌-◌, Err, sym, ap, 
 use Rattle.machine.specs.declared.call.Call.TheVariants.{Advance}
 use Rattle.machine.specs.declared.call.Answer.TheVariants.{Advanced}
 use Rattle.machine.specs.State.{State, running}
-use Rattle.machine.specs.Step.{Outcome, step, refused, top_expired, lapsed, released_at, selected, advanced, advanced_answer}
-use Rattle.scheduler.specs.declared.records.Records.{Records}
+use Rattle.machine.specs.Step.{Outcome, step, refused, advanced, advanced_answer}
 use Rattle.scheduler.specs.declared.question.Counts.{Counts}
 use Rattle.scheduler.specs.declared.stack.Inner.{Inner}
-use Rattle.scheduler.specs.View.{table_of, jobs_of, state_of}
-use Rattle.scheduler.specs.Parts.{Parts, state_in}
+use Rattle.scheduler.specs.View.{table_of, state_of}
+use Rattle.scheduler.specs.Parts.{state_in}
 use Rattle.scheduler.specs.Calls.{of_advance}
+use Rattle.scheduler.proofs.Ghosts.{high}
 use Rattle.scheduler.proofs.Picks.{running_over}
 use Rattle.scheduler.proofs.Calls.{passed, advance_is, advance_parts}
 use Rattle.scheduler.proofs.engine.Engine.advance.Given.{Over}
@@ -49,24 +49,24 @@ module _ (g : Over) (c : goal.After-running g) where
       let r1 = c.expire_running-ended.ensures.records in
       let r2 = c.lapse-lapsed.ensures.records ∙ r1 in
       let r3 = c.release-released.ensures.records ∙ r2 in
-      let p = c.self.inside in
-      let on : Inner → State = λ i. top_expired (table_of p.records) t (state_of i (g.W.Queue.list p.waiting) (g.R.Queue.list p.released)) (jobs_of i.stack i.depth) in
-      advance_parts (table_of p.records) t start s1 s2 s3 end (c.expire_running-ended.ensures.after ∙ ap on c.set_clock.ensures)
-      (c.lapse-lapsed.ensures.after ∙ ap (λ (x : Records). lapsed (table_of x) t s1 s1.released) r1)
-      (c.release-released.ensures.after ∙ ap (λ (x : Records). released_at (table_of x) t s2 s2.waiting) r2)
-      (c.select.ensures.after ∙ ap (λ (x : Records). selected (table_of x) s3) r3)
+      advance_parts (table_of c.self.inside.records) t start s1 s2 s3 end (rw c.set_clock.ensures at c.expire_running-ended.ensures.after) (rw r1 at c.lapse-lapsed.ensures.after)
+      (rw r2 at c.release-released.ensures.after) (rw r3 at c.select.ensures.after)
 
 pub returns-clause-value : goal.returns-clause-value
 returns-clause-value g c =
     let s = start g c in
     let s4 = end g c in
-    let tall = c.self-2.invariant.steady.tall in
+    let clock = c.set_clock.ensures in
+    let expired = c.expire_running-ended.ensures.counts in
+    let lapsed = c.lapse-lapsed.ensures.counts in
+    let released = c.release-released.ensures.counts in
+    let selected = c.select.ensures.counts in
     let ends : c.expire_running-ended.result + c.lapse-lapsed.result ≡ s4.counts.expiries - s.counts.expiries =
-    omega (arith, c.expire_running-ended.ensures.counts.0, ap (λ (i : Inner). i.counts.expiries) c.set_clock.ensures, c.lapse-lapsed.ensures.counts.0, c.release-released.ensures.counts.1, ap (λ (n : Counts). n.expiries) c.select.ensures.counts) in
+    omega (arith, ap (λ (i : Inner). i.counts.expiries) clock, ap (λ (n : Counts). n.expiries) selected) in
     let outs : c.release-released.result ≡ s4.counts.releases - s.counts.releases =
-    omega (arith, c.expire_running-ended.ensures.counts.1, ap (λ (i : Inner). i.counts.releases) c.set_clock.ensures, c.lapse-lapsed.ensures.counts.1, c.release-released.ensures.counts.0, ap (λ (n : Counts). n.releases) c.select.ensures.counts) in
+    omega (arith, ap (λ (i : Inner). i.counts.releases) clock, ap (λ (n : Counts). n.releases) selected) in
     let runs : c.running.result ≡ running s4.stack =
-    c.running.ensures ∙ running_over c.self-2.inside.inner (omega (arith, tall.0, tall.2)) ∙ ap (λ (q : Parts _ _). running (jobs_of q.inner.stack q.inner.depth)) c.self-2.view_is in
+    rw (← c.self-2.view_is) (c.running.ensures ∙ running_over c.self-2.inside.inner (high c.self-2.invariant.steady)) in
     rw (← c.self.view_is)
     (ap (λ n. Advanced (n, c.release-released.result, c.running.result)) ends
     ∙ ap (λ n. Advanced (s4.counts.expiries - s.counts.expiries, n, c.running.result)) outs

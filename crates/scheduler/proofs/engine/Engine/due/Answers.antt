@@ -1,8 +1,7 @@
 use Rattle.std.proofs.Common.{◌≡◌, ℕ, min, Some, None, Option, [], ◌∷◌, refl, ap, ◌∙◌, arith}
 use Rattle.std.specs.List.{reduce, filter_map}
-use Rattle.machine.specs.State.{sooner, top_deadline, first_deadline}
-use Rattle.scheduler.specs.View.{jobs_of}
-use Rattle.scheduler.specs.Parts.{Parts}
+use Rattle.machine.specs.State.{sooner}
+use Rattle.scheduler.proofs.Ghosts.{high}
 use Rattle.scheduler.proofs.Picks.{deadline_over}
 use Rattle.scheduler.proofs.engine.Engine.due.Goals as goal
 
@@ -19,12 +18,7 @@ least_of_three (Some x) (Some y) (Some z) = ap Some (let e : min (min x y) z ≡
 
 pub returns : goal.returns
 returns g c =
-    let i = c.self.inside.inner in
-    let p = c.args.self.now in
-    let tall = c.self.invariant.steady.tall in
-    let top = c.deadline.ensures ∙ deadline_over i (omega (arith, tall.0, tall.2)) ∙ ap (λ (q : Parts _ _). top_deadline (jobs_of q.inner.stack q.inner.depth)) c.self.view_is in
-    c.soonest.ensures
-    ∙ least_of_three c.deadline.result c.first_deadline.result c.first_release.result
-    ∙ ap (λ (d : Option ℕ). sooner d (sooner c.first_deadline.result c.first_release.result)) top
-    ∙ ap (λ (d : Option ℕ). sooner (top_deadline (jobs_of p.inner.stack p.inner.depth)) (sooner d c.first_release.result)) c.first_deadline.ensures
-    ∙ ap (λ (d : Option ℕ). sooner (top_deadline (jobs_of p.inner.stack p.inner.depth)) (sooner (first_deadline (g.R.Queue.list p.released)) d)) c.first_release.ensures
+    let first = rw (← c.self.view_is) at c.first_deadline.ensures in
+    let next = rw (← c.self.view_is) at c.first_release.ensures in
+    let top = c.deadline.ensures ∙ deadline_over c.self.inside.inner (high c.self.invariant.steady) in
+    rw (← c.self.view_is, c.soonest.ensures, least_of_three c.deadline.result c.first_deadline.result c.first_release.result, top, first, next)

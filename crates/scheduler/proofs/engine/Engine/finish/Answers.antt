@@ -3,10 +3,11 @@ use Rattle.machine.specs.declared.call.Call.TheVariants.{Finish}
 use Rattle.machine.specs.declared.call.Answer.TheVariants.{Running}
 use Rattle.machine.specs.State.{State, running}
 use Rattle.machine.specs.Step.{Outcome, step, refused, selected}
-use Rattle.scheduler.specs.View.{table_of, jobs_of, state_of}
+use Rattle.scheduler.specs.View.{table_of, state_of}
 use Rattle.scheduler.specs.Moves.{finished_by}
-use Rattle.scheduler.specs.Parts.{Parts, state_in}
+use Rattle.scheduler.specs.Parts.{state_in}
 use Rattle.scheduler.specs.Calls.{of_finish}
+use Rattle.scheduler.proofs.Ghosts.{high}
 use Rattle.scheduler.proofs.Picks.{running_over}
 use Rattle.scheduler.proofs.Events.{finishes_most}
 use Rattle.scheduler.proofs.Steps.{ended}
@@ -59,10 +60,7 @@ module _ (g : Over) (c : goal.After-running g) where
 
 pub returns-clause-value : goal.returns-clause-value
 returns-clause-value g c =
-    let end = c.self-2.inside.inner in
-    let tall = c.self-2.invariant.steady.tall in
-    let runs = c.running.ensures ∙ running_over end (omega (arith, tall.0, tall.2)) ∙ ap (λ (q : Parts _ _). running (jobs_of q.inner.stack q.inner.depth)) c.self-2.view_is
-    ∙ ap (λ (x : State). running x.stack) (reached g c) in
+    let runs = c.running.ensures ∙ running_over c.self-2.inside.inner (high c.self-2.invariant.steady) ∙ ap (λ (x : State). running x.stack) (rw (← c.self-2.view_is) at (reached g c)) in
     rw (← c.self.view_is) (ap Running runs ∙ ap (λ (o : Outcome). o.answer) (sym (ended_is g c)))
 
 pub returns-clause-after : goal.returns-clause-after

@@ -1,5 +1,4 @@
 use Rattle.std.proofs.Common.{ap, ◌∙◌, arith}
-use Rattle.std.proofs.lemmas.Bool.{eq-eqb}
 use Rattle.queue.specs.Order.{insert_sorted}
 use Rattle.queue.specs.Meaning.{rest_of}
 use Rattle.queue.specs.Entries.{waiting_before}
@@ -42,4 +41,4 @@ returns-clause-same g c =
     let rs = g.R.Queue.list p.released in
     rw (← c.self.view_is)
     (ap (λ (s : State). lapsed k c.args.t s s.released) (after g c).state
-    ∙ lapse_step k p.inner c.args.t (g.W.Queue.list p.waiting) rs e (rest_of rs) (first_is rs e c.in-Some.ensures) (eq-eqb _ _ c.if-e-t.false))
+    ∙ lapse_step k p.inner c.args.t _ _ e (rest_of rs) (first_is rs e c.in-Some.ensures) c.if-e-t.false)

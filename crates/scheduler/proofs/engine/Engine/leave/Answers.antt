@@ -7,12 +7,12 @@ use Rattle.machine.specs.Step.{Outcome, step, refused, selected}
 use Rattle.machine.proofs.Cases.{chosen}
 use Rattle.scheduler.specs.declared.stack.Inner.{Inner}
 use Rattle.scheduler.specs.Answered.{told}
-use Rattle.scheduler.specs.View.{table_of, open_of, opens_of, jobs_of, state_of}
+use Rattle.scheduler.specs.View.{table_of, open_of, opens_of, state_of}
 use Rattle.scheduler.specs.Moves.{top_of, no_open, last_open, with_closed, left_by}
-use Rattle.scheduler.specs.Parts.{Parts, state_in}
+use Rattle.scheduler.specs.Parts.{state_in}
 use Rattle.scheduler.proofs.Jobs.{opens_top}
 use Rattle.scheduler.proofs.Facts.{chained_parts}
-use Rattle.scheduler.proofs.Ghosts.{wide, top_open, top_ghosts}
+use Rattle.scheduler.proofs.Ghosts.{high, wide, top_open, top_ghosts}
 use Rattle.scheduler.proofs.Fits.{top_listed}
 use Rattle.scheduler.proofs.Steps.{left}
 use Rattle.scheduler.proofs.Picks.{running_over}
@@ -26,7 +26,7 @@ kept_is : (g : Over) (c : goal.Then-is_open g)
     step (table_of p.records) (Leave c.args.grant.ticket) s ≡ refused s (NotInnermost c.args.grant.ticket)
 kept_is g c =
     let p = c.self.inside in
-    leave_is c.self.invariant.steady c.args.grant.ticket _ _ (sym c.if-not-is_innermost.ensures) (sym (rw (← c.self.view_is) at c.if-is_open.ensures))
+    leave_is c.self.invariant.steady c.args.grant.ticket _ _ c.if-not-is_innermost.ensures (rw (← c.self.view_is) at c.if-is_open.ensures)
 
 pub returns-then-is_open-clause-value : goal.returns-then-is_open-clause-value
 returns-then-is_open-clause-value g c = rw (← c.self.view_is) (ap (λ (o : Outcome). told o.answer) (sym (kept_is g c)))
@@ -40,7 +40,7 @@ spent_is : (g : Over) (c : goal.Else-is_open g)
     step (table_of p.records) (Leave c.args.grant.ticket) s ≡ refused s NotOpen
 spent_is g c =
     let p = c.self.inside in
-    leave_is c.self.invariant.steady c.args.grant.ticket _ _ (sym c.if-not-is_innermost.ensures) (sym (rw (← c.self.view_is) at c.if-is_open.ensures))
+    leave_is c.self.invariant.steady c.args.grant.ticket _ _ c.if-not-is_innermost.ensures (rw (← c.self.view_is) at c.if-is_open.ensures)
 
 pub returns-then-not-is_innermost-clause-value : goal.returns-then-not-is_innermost-clause-value
 returns-then-not-is_innermost-clause-value g c = rw (← c.self.view_is) (ap (λ (o : Outcome). told o.answer) (sym (spent_is g c)))
@@ -52,7 +52,7 @@ pub leave-requires-clause-counts : goal.leave-requires-clause-counts
 leave-requires-clause-counts g c =
     let p = c.self.inside in
     let steady = c.self.invariant.steady in
-    let some = leave_some steady c.args.grant.ticket (sym c.if-not-is_innermost.ensures) in
+    let some = leave_some steady c.args.grant.ticket c.if-not-is_innermost.ensures in
     omega (arith, steady.balanced.0, steady.balanced.1, top_open steady some.0, some.1)
 
 pub invariant_of-self : goal.invariant_of-self
@@ -61,7 +61,7 @@ invariant_of-self g c =
     let i = c.self.inside.inner in
     let top = top_of i in
     let steady = c.self.invariant.steady in
-    let some = leave_some steady c.args.grant.ticket (sym c.if-not-is_innermost.ensures) in
+    let some = leave_some steady c.args.grant.ticket c.if-not-is_innermost.ensures in
     let last : i.depth - 1 < i.depth = omega (arith, some.0) in
     let full = steady.tall.3 (i.depth - 1) (omega (arith, steady.tall.2, some.0)) in
     let nest = (chained_parts k (open_of (last_open top)) (opens_of top.opened (top.count - 1))
@@ -78,7 +78,7 @@ module _ (g : Over) (c : goal.After-running g) where
   gone_is :
       let p = c.self.inside in
       step (table_of p.records) (Leave c.args.grant.ticket) (state_of p.inner (g.W.Queue.list p.waiting) (g.R.Queue.list p.released)) ≡ chosen (table_of p.records) freed
-  gone_is = let p = c.self.inside in leave_is c.self.invariant.steady c.args.grant.ticket _ _ (sym c.if-not-is_innermost.ensures) refl
+  gone_is = let p = c.self.inside in leave_is c.self.invariant.steady c.args.grant.ticket _ _ c.if-not-is_innermost.ensures refl
 
   reached : state_in g.W.Queue g.R.Queue c.select.new.self ≡ selected (table_of c.self.inside.records) freed
   reached =
@@ -87,10 +87,7 @@ module _ (g : Over) (c : goal.After-running g) where
 
 pub returns-clause-value : goal.returns-clause-value
 returns-clause-value g c =
-    let end = c.self-2.inside.inner in
-    let tall = c.self-2.invariant.steady.tall in
-    let runs = c.running.ensures ∙ running_over end (omega (arith, tall.0, tall.2)) ∙ ap (λ (q : Parts _ _). running (jobs_of q.inner.stack q.inner.depth)) c.self-2.view_is
-    ∙ ap (λ (x : State). running x.stack) (reached g c) in
+    let runs = c.running.ensures ∙ running_over c.self-2.inside.inner (high c.self-2.invariant.steady) ∙ ap (λ (x : State). running x.stack) (rw (← c.self-2.view_is) at (reached g c)) in
     rw (← c.self.view_is) (ap Running runs ∙ ap (λ (o : Outcome). told o.answer) (sym (gone_is g c)))
 
 pub returns-clause-after : goal.returns-clause-after

@@ -1,5 +1,4 @@
 use Rattle.std.proofs.Common.{ap, ◌∙◌, arith}
-use Rattle.std.proofs.lemmas.Bool.{eq-eqb}
 use Rattle.queue.specs.Order.{insert_sorted}
 use Rattle.queue.specs.Meaning.{rest_of}
 use Rattle.queue.specs.Entries.{released_before}
@@ -42,4 +41,4 @@ returns-clause-same g c =
     let ws = g.W.Queue.list p.waiting in
     rw (← c.self.view_is)
     (ap (λ (s : State). released_at k c.args.t s s.waiting) (after g c).state
-    ∙ release_step k p.inner c.args.t ws (g.R.Queue.list p.released) w (rest_of ws) (first_is ws w c.in-Some.ensures) (eq-eqb _ _ c.if-w-t.false))
+    ∙ release_step k p.inner c.args.t _ _ w (rest_of ws) (first_is ws w c.in-Some.ensures) c.if-w-t.false)

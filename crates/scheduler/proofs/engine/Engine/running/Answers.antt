@@ -1,8 +1,6 @@
-use Rattle.std.proofs.Common.{Some, Option, sym, ap, ◌∙◌, arith}
-use Rattle.machine.specs.State.{inherited}
-use Rattle.scheduler.specs.declared.question.Running.{Running}
-use Rattle.scheduler.specs.declared.stack.StackRecord.{StackRecord}
-use Rattle.scheduler.specs.View.{table_of, job_of}
+use Rattle.std.proofs.Common.{sym, ◌∙◌}
+use Rattle.scheduler.specs.View.{table_of}
+use Rattle.scheduler.proofs.Ghosts.{high}
 use Rattle.scheduler.proofs.Picks.{none_runs, one_runs}
 use Rattle.scheduler.proofs.engine.Engine.running.Goals as goal
 
@@ -15,10 +13,5 @@ pub returns : goal.returns
 returns g c =
     let p = c.self.inside in
     let k = table_of p.records in
-    let tall = c.self.invariant.steady.tall in
-    let told : StackRecord → Option Running = λ r. Some (record { task = r.task; deadline = r.deadline; inherited = inherited k (job_of r) }) in
-    let job = c.in_ok-job.job.now in
     rw (← c.self.view_is)
-    (ap (λ n. Some (record { task = job.task; deadline = job.deadline; inherited = n })) c.inherited.ensures
-    ∙ ap told c.in_ok-job.ensures.1
-    ∙ sym (one_runs k p.inner c.in_ok-job.ensures.0 (omega (arith, tall.0, tall.2))))
+    (rw (c.inherited.ensures, c.in_ok-job.ensures.1) (sym (one_runs k p.inner c.in_ok-job.ensures.0 (high c.self.invariant.steady))))

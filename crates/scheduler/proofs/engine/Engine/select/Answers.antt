@@ -33,7 +33,7 @@ returns-then-goes-clause-after g c =
     let room = job_room c.self.invariant e c.in-Some.ensures in
     rw (← c.self.view_is)
     ((after g c).state
-    ∙ pick_yes k p.inner (g.W.Queue.list p.waiting) rs e (rest_of rs) (first_is rs e c.in-Some.ensures)
+    ∙ pick_yes k p.inner _ rs e (rest_of rs) (first_is rs e c.in-Some.ensures)
     (sym (goes_over_lem k p.inner e (high steady)) ∙ sym goes ∙ c.if-goes.true) (omega (arith, room, steady.tall.0)))
 
 pub returns-else-goes-clause-after : goal.returns-else-goes-clause-after
@@ -44,11 +44,11 @@ returns-else-goes-clause-after g c =
     let rs = g.R.Queue.list p.released in
     let goes = rw (← c.self.view_is) at c.goes.ensures in
     rw (← c.self.view_is)
-    (pick_no k p.inner (g.W.Queue.list p.waiting) rs e (rest_of rs) (first_is rs e c.in-Some.ensures)
+    (pick_no k p.inner _ rs e (rest_of rs) (first_is rs e c.in-Some.ensures)
     (sym (goes_over_lem k p.inner e (high c.self.invariant.steady)) ∙ sym goes ∙ c.if-goes.false))
 
 pub returns-in_default-clause-after : goal.returns-in_default-clause-after
 returns-in_default-clause-after g c =
     let p = c.self.inside in
     let rs = g.R.Queue.list p.released in
-    rw (← c.self.view_is) (pick_none (table_of p.records) p.inner (g.W.Queue.list p.waiting) rs (none_first rs c.in_default.ensures))
+    rw (← c.self.view_is) (pick_none (table_of p.records) p.inner _ rs (none_first rs c.in_default.ensures))

@@ -1,8 +1,7 @@
-use Rattle.std.proofs.Common.{slice_index_or, rules, ◌≡◌, List, get_or, length, sym, ap, ◌∙◌, arith}
+use Rattle.std.proofs.Common.{rules, ◌≡◌, List, slice_index_or, length, sym, ap, ◌∙◌, arith}
 use Rattle.std.proofs.lemmas.List.{get_or-take, length-take-le}
 use Rattle.table.specs.declared.records.TaskRecord.{TaskRecord}
-use Rattle.machine.specs.State.{section_at, relative, lowered, or_lower}
-use Rattle.scheduler.specs.declared.stack.OpenSection.{OpenSection}
+use Rattle.machine.specs.State.{relative, lowered, or_lower}
 use Rattle.scheduler.specs.View.{table_of, opens_of}
 use Rattle.scheduler.proofs.Jobs.{opens_none, opens_more}
 use Rattle.scheduler.proofs.Facts.{no_task, no_open, open_within}
@@ -20,23 +19,20 @@ level-requires c =
     let k = c.args.self.now in
     let job = c.args.job.now in
     let i = c.loop-open.open-index in
-    let few = ap length c.opens-open-items.ensures ∙ length-take-le job.count job.opened (omega (arith, c.requires.known.1)) in
-    let at = ap (λ (os : List OpenSection). (get_or os i no_open).section) c.opens-open-items.ensures in
-    let at' = ap (λ (o : OpenSection). o.section) (get_or-take job.count job.opened i no_open (omega (arith, few, c.loop-open-test.true))) in
-    omega (arith, at, at', few, open_within (table_of k) job.opened job.count i c.requires.nested (omega (arith, few, c.loop-open-test.true)) (omega (arith, c.requires.known.1)), c.loop-open-test.true)
+    let few = rw c.opens-open-items.ensures at c.loop-open-test.true in
+    let long = length-take-le job.count job.opened (omega (arith, c.requires.known.1)) in
+    rw (c.opens-open-items.ensures, get_or-take job.count job.opened i no_open (omega (arith, few, long)))
+    (omega (arith, open_within (table_of k) job.opened job.count i c.requires.nested (omega (arith, few, long)) (omega (arith, c.requires.known.1))))
 
 pub loop-open-preserved : goal.loop-open-preserved
 loop-open-preserved c =
-    let k = c.args.self.now in
     let job = c.args.job.now in
     let i = c.loop-open.open-index in
-    let d = relative (table_of k) job.task in
-    let few = ap length c.opens-open-items.ensures ∙ length-take-le job.count job.opened (omega (arith, c.requires.known.1)) in
+    let few = rw c.opens-open-items.ensures at c.loop-open-test.true in
+    let long = length-take-le job.count job.opened (omega (arith, c.requires.known.1)) in
+    let at = get_or-take job.count job.opened i no_open (omega (arith, few, long)) in
     let lower : c.map_or-least.result ≡ or_lower c.loop-open.least c.level.result = search rules in
-    lower ∙ ap (λ n. or_lower n c.level.result) c.loop-open.invariant ∙ ap (or_lower (lowered (table_of k) d (opens_of job.opened i))) c.level.ensures
-    ∙ ap (λ (os : List OpenSection). or_lower (lowered (table_of k) d (opens_of job.opened i)) (section_at (table_of k) (get_or os i no_open).section).level) c.opens-open-items.ensures
-    ∙ ap (λ (o : OpenSection). or_lower (lowered (table_of k) d (opens_of job.opened i)) (section_at (table_of k) o.section).level) (get_or-take job.count job.opened i no_open (omega (arith, few, c.loop-open-test.true)))
-    ∙ ap (lowered (table_of k) d) (sym (opens_more job.opened i no_open (omega (arith, few, c.loop-open-test.true, c.requires.known.1))))
+    rw (lower, c.loop-open.invariant, c.level.ensures, c.opens-open-items.ensures, at, opens_more job.opened i no_open (omega (arith, few, long, c.requires.known.1)))
 
 pub returns : goal.returns
 returns c =

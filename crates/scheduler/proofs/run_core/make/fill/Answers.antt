@@ -1,7 +1,4 @@
-use Rattle.std.proofs.Common.{List, ap, ◌∙◌, arith}
-use Rattle.queue.specs.declared.waiting.Waiting.{Waiting}
-use Rattle.queue.specs.Answer.{inserted}
-use Rattle.queue.specs.Entries.{waiting_order}
+use Rattle.std.proofs.Common.{◌∙◌, arith}
 use Rattle.scheduler.proofs.Starts.{firsts_put}
 use Rattle.scheduler.proofs.run_core.make.fill.Goals as goal
 
@@ -12,6 +9,5 @@ loop-task-preserved g c =
     let room = w.capacity c.loop-task.waiting in (
       c.insert.ensures.ordered,
       c.insert.ensures.capacity ∙ c.loop-task.invariant.1,
-      c.insert.ensures.after ∙ ap (λ (l : List Waiting). inserted waiting_order room (record { release = 0; task = n }) l) c.loop-task.invariant.2
-          ∙ firsts_put room n (omega arith) (omega (arith, c.loop-task.invariant.1)),
+      rw (c.insert.ensures.after, c.loop-task.invariant.2, firsts_put room n (omega arith) (omega (arith, c.loop-task.invariant.1))),
     )
