@@ -2,7 +2,8 @@
 use Rattle.std.proofs.Common.{◌≡◌, ℕ, suc, true, List, [], ◌∷◌, ◌++◌, length, get_or, Some, None, Ok, Err, codes, IsUtf8, IsAscii, Option, Result, sym, refl, ◌∙◌, subst, arith, Bor, rules}
 use Rattle.std.specs.Str.Iter.{LacksByte}
 use Rattle.std.specs.Str.Parse.{ParsesUnsigned}
-use Rattle.std.specs.Result.{result_ok}
+use Rattle.std.specs.Option.{MatchOption}
+use Rattle.std.specs.Result.{result_ok, MatchResult}
 use Rattle.std.specs.Str.{all_ascii_digits}
 use Rattle.std.proofs.lemmas.Str.Ascii.{IsAscii-from_reads, IsAscii-cons}
 use Rattle.std.proofs.ByRecursion.{IsAscii-from_all}
@@ -14,7 +15,7 @@ use Rattle.table.specs.Number.{decimal, decimal_from}
 use Rattle.machine.specs.declared.call.Ticket.{Ticket}
 use Rattle.machine.specs.declared.call.Call.{Call}
 use Rattle.machine.specs.declared.call.Call.TheVariants.{Advance, Enter, Leave, Finish}
-use Rattle.trace.specs.Line.{Number, Counts, Three, Writes}
+use Rattle.trace.specs.Line.{Number, Counts, Three, Writes, Says}
 
 own : IsNumeralModel (λ ds. all_ascii_digits ds ≡ true) decimal
 own = numerals_by_fold _ tells_all_ascii_digits decimal_from (search rules)
@@ -111,3 +112,9 @@ writes_text line (Advance t) (ds, e, n) = IsUtf8-from_ascii line (subst IsAscii 
 writes_text line (Enter s) (ds, e, n) = IsUtf8-from_ascii line (subst IsAscii (sym e) (IsAscii-append (codes "enter ") ds (IsAscii-from_all (codes "enter ") (search rules)) (number_ascii 64 ds s n)))
 writes_text line (Leave g) (ds, e, n) = IsUtf8-from_ascii line (subst IsAscii (sym e) (IsAscii-append (codes "leave ") ds (IsAscii-from_all (codes "leave ") (search rules)) (three_ascii ds g n)))
 writes_text line Finish e = IsUtf8-from_ascii line (subst IsAscii (sym e) (IsAscii-from_all (codes "finish") (search rules)))
+
+-- the call that bytes are: the one that they are as text, if they are text
+pub said_of : {E : Type 0} (Bad : E → Type 0) (given : List ℕ) (r : Result (Bor (List ℕ)) E) (text : Option (Bor (List ℕ))) (call : Option Call)
+    → MatchResult r (λ s. (s.now ≡ given) × IsUtf8 given) (λ e. (IsUtf8 given → ⊥) × Bad e) → text ≡ result_ok r → MatchOption text (call ≡ None) (λ x. Says x.now call) → Says given call
+said_of Bad given (Ok s) text call cases e said = subst (λ l. Says l call) cases.0 (subst (λ o. MatchOption o (call ≡ None) (λ x. Says x.now call)) e said)
+said_of Bad given (Err b) text call cases e said = subst (Says given) (sym (subst (λ o. MatchOption o (call ≡ None) (λ x. Says x.now call)) e said)) (λ k h. cases.0 (writes_text given k h))
