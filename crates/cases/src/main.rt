@@ -5,84 +5,90 @@
 
 #![tactic(auto)]
 
+ghost use Rattle.std.specs.Prelude.{◌<◌, length, IfSome};
+ghost use Rattle.std.specs.Str.Iter.{bytes_rest};
+
 use admission::admit::admit;
 use anyhow::Context;
 use std::alloc::Global;
 use std::io::{BufRead, BufReader};
+use std::str::Bytes;
+use std::{fmt, io};
 use table::read::read;
 use table::records::{SectionRecord, TaskRecord};
 
 #[cfg(test)]
 mod tests;
 
-/// What a byte of a case says after those before it.
+/// A number that may be missing, written `-` where it is.
 #[derive(Clone, Copy)]
-enum Reading {
-    Plain,
-    Escape,
-    Hex,
-    HexAfter(u8),
+struct OrDash<T>(Option<T>);
+
+impl<T: fmt::Display> fmt::Display for OrDash<T> {
+    fn fmt<W: fmt::Write>(&self, f: &mut fmt::Formatter<W>) -> fmt::Result {
+        match &self.0 {
+            Some(number) => write!(f, "{number}"),
+            None => write!(f, "-"),
+        }
+    }
 }
 
-fn hex(b: u8) -> u8 {
-    match b {
-        b'0'..=b'9' => b - b'0',
-        b'a'..=b'f' => b - b'a' + 10,
-        _ => 0,
+/// The number that a digit in base 16 stands for; 0 for any other byte.
+fn hex(b: u8) -> u8
+    ensures { result < 16 }
+{
+    char::from(b).to_digit(16).unwrap_or(0) as u8
+}
+
+/// The next byte that an escaped text stands for; none where it ends, or ends within an escape.
+fn unescape(escaped: &mut Bytes) -> Option<u8>
+    ensures { IfSome result (λ _. length (bytes_rest escaped.new) < length (bytes_rest escaped.old)) }
+{
+    match escaped.next()? {
+        b'\\' => match escaped.next()? {
+            b'n' => Some(b'\n'),
+            b'x' => Some(16 * hex(escaped.next()?) + hex(escaped.next()?)),
+            b => Some(b),
+        },
+        b => Some(b),
     }
 }
 
 /// The bytes that an escaped text stands for.
 fn decode(heap: Global, escaped: &str) -> anyhow::Result<Vec<u8>> {
     let mut text = Vec::new(heap);
-    let mut reading = Reading::Plain;
-    for b in escaped.bytes() {
-        reading = match (reading, b) {
-            (Reading::Plain, b'\\') => Reading::Escape,
-            (Reading::Plain, _) => {
-                text.push(b)?;
-                Reading::Plain
-            }
-            (Reading::Escape, b'x') => Reading::Hex,
-            (Reading::Escape, b'n') => {
-                text.push(b'\n')?;
-                Reading::Plain
-            }
-            (Reading::Escape, _) => {
-                text.push(b)?;
-                Reading::Plain
-            }
-            (Reading::Hex, _) => Reading::HexAfter(hex(b)),
-            (Reading::HexAfter(high), _) => {
-                text.push(high.wrapping_mul(16).wrapping_add(hex(b)))?;
-                Reading::Plain
-            }
-        };
+    let mut escaped = escaped.bytes();
+    while let Some(b) = unescape(&mut escaped) {
+        text.push(b)?;
     }
     Ok(text)
 }
 
-fn print_task(rt: &HostRuntime, t: &TaskRecord) -> anyhow::Result<()> {
-    let (place, long, d, p, c) = (t.name.first, t.name.count, t.deadline, t.period, t.cost);
-    let (first, count) = (t.sections.first, t.sections.count);
-    print!(rt; " | {place} {long} {d} {p} {c} {first} {count}")?;
-    Ok(())
+fn print_task(rt: &HostRuntime, t: &TaskRecord) -> io::Result<()> {
+    let TaskRecord {
+        name,
+        deadline,
+        period,
+        cost,
+        sections,
+    } = *t;
+    print!(rt;
+        " | {} {} {deadline} {period} {cost} {} {}",
+        name.first, name.count, sections.first, sections.count,
+    )
 }
 
-fn print_section(rt: &HostRuntime, s: &SectionRecord) -> anyhow::Result<()> {
-    let task = s.task;
-    print!(rt; " | {task} ")?;
-    match s.around {
-        Some(around) => print!(rt; "{around}")?,
-        None => print!(rt; "-")?,
-    }
-    let (small, capital, length) = (s.small, s.capital, s.length);
-    print!(rt; " {small} {capital} {length} ")?;
-    match s.level {
-        Some(level) => print!(rt; "{level}")?,
-        None => print!(rt; "-")?,
-    }
-    Ok(())
+fn print_section(rt: &HostRuntime, s: &SectionRecord) -> io::Result<()> {
+    let SectionRecord {
+        task,
+        around,
+        small,
+        capital,
+        length,
+        level,
+    } = *s;
+    let (around, level) = (OrDash(around), OrDash(level));
+    print!(rt; " | {task} {around} {small} {capital} {length} {level}")
 }
 
 /// Prints the records of a table that was read, and its verdict.
@@ -98,10 +104,7 @@ fn judge<'t>(
         print_section(rt, s)?;
     }
     match admit(tasks, sections) {
-        Ok(pass) => {
-            let idle = pass.idle();
-            println!(rt; " = admitted idle {idle}")?;
-        }
+        Ok(pass) => println!(rt; " = admitted idle {}", pass.idle())?,
         Err(refusal) => println!(rt; " = refused {refusal}")?,
     }
     Ok(())
@@ -116,9 +119,8 @@ fn try_records(
 ) -> anyhow::Result<()> {
     match read(text, tasks, sections) {
         Ok(counts) => {
-            let (k, m) = (counts.tasks, counts.sections);
-            print!(rt; "read {k} {m}")?;
-            judge(rt, &tasks[0..k], &sections[0..m])
+            print!(rt; "read {} {}", counts.tasks, counts.sections)?;
+            judge(rt, &tasks[..counts.tasks], &sections[..counts.sections])
         }
         Err(refusal) => {
             println!(rt; "refused {refusal}")?;
@@ -131,12 +133,11 @@ fn try_records(
 fn try_text(rt: &HostRuntime, tasks: usize, sections: usize, text: &[u8]) -> anyhow::Result<()> {
     let mut task_records = [TaskRecord::EMPTY; 40];
     let mut section_records = [SectionRecord::EMPTY; 70];
-    let (k, m) = (tasks.min(40), sections.min(70));
     try_records(
         rt,
         text,
-        &mut task_records[0..k],
-        &mut section_records[0..m],
+        &mut task_records[..tasks.min(40)],
+        &mut section_records[..sections.min(70)],
     )
 }
 

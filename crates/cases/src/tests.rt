@@ -53,13 +53,8 @@ fn each_refusal_has_its_place(rt: HostRuntime) {
 fn unfit(text: &[u8]) -> Option<Unfit> {
     let mut tasks = [TaskRecord::EMPTY; MOST_TASKS];
     let mut sections = [SectionRecord::EMPTY; MOST_SECTIONS];
-    match read(text, &mut tasks, &mut sections) {
-        Ok(counts) => {
-            let (k, m) = (counts.tasks, counts.sections);
-            admit(&tasks[0..k], &sections[0..m]).err()
-        }
-        Err(_) => None,
-    }
+    let counts = read(text, &mut tasks, &mut sections).ok()?;
+    admit(&tasks[..counts.tasks], &sections[..counts.sections]).err()
 }
 
 /// The flash table, and the same with a longer last section: one that still fits, and one that does not.
@@ -93,12 +88,29 @@ fn rules_of_records_come_first(rt: HostRuntime) {
 }
 
 /// The task that was taken, if one was.
-fn taken<E: QueueEntry>(answer: Answer<E>) -> Option<usize> {
+fn taken<E: QueueEntry>(answer: &Answer<E>) -> Option<usize> {
     match answer {
         Answer::Inserted(_) => None,
-        Answer::Taken(None) => None,
-        Answer::Taken(Some(e)) => Some(e.task()),
+        Answer::Taken(entry) => entry.map(|e| e.task()),
     }
+}
+
+/// Puts three entries in, and takes three out.
+fn in_and_out<E: QueueEntry>(entries: [E; 3]) -> [Call<E>; 6] {
+    let [first, second, third] = entries;
+    [
+        Call::Insert(first),
+        Call::Insert(second),
+        Call::Insert(third),
+        Call::Take,
+        Call::Take,
+        Call::Take,
+    ]
+}
+
+/// The tasks that the last three of six answers took out.
+fn last_taken<E: QueueEntry>(answers: &[Answer<E>; 6]) -> [Option<usize>; 3] {
+    [taken(&answers[3]), taken(&answers[4]), taken(&answers[5])]
 }
 
 /// Makes the calls on a list and on a heap over the lent entries, and writes down what each answers.
@@ -120,20 +132,15 @@ fn both_queues_give_out_waiting_tasks_alike(rt: HostRuntime) {
         release: 7,
         task: 4,
     };
-    let calls = [
-        Call::Insert(first),
-        Call::Insert(Waiting {
-            release: 9,
-            task: 0,
-        }),
-        Call::Insert(Waiting {
-            release: 7,
-            task: 2,
-        }),
-        Call::Take,
-        Call::Take,
-        Call::Take,
-    ];
+    let second = Waiting {
+        release: 9,
+        task: 0,
+    };
+    let third = Waiting {
+        release: 7,
+        task: 2,
+    };
+    let calls = in_and_out([first, second, third]);
     let (mut in_list, mut in_heap) = ([first; 3], [first; 3]);
     let mut from_list = [Answer::Taken(None); 6];
     let mut from_heap = [Answer::Taken(None); 6];
@@ -145,18 +152,9 @@ fn both_queues_give_out_waiting_tasks_alike(rt: HostRuntime) {
         ),
         Ok(())
     );
-    assert_eq!(rt;
-        (taken(from_list[3]), taken(from_heap[3])),
-        (Some(2), Some(2))
-    );
-    assert_eq!(rt;
-        (taken(from_list[4]), taken(from_heap[4])),
-        (Some(4), Some(4))
-    );
-    assert_eq!(rt;
-        (taken(from_list[5]), taken(from_heap[5])),
-        (Some(0), Some(0))
-    );
+    let expected = [Some(2), Some(4), Some(0)];
+    assert_eq!(rt; last_taken(&from_list), expected);
+    assert_eq!(rt; last_taken(&from_heap), expected);
 }
 
 #[test]
@@ -166,22 +164,17 @@ fn both_queues_give_out_released_tasks_alike(rt: HostRuntime) {
         relative: 5,
         task: 0,
     };
-    let calls = [
-        Call::Insert(first),
-        Call::Insert(Released {
-            deadline: 9,
-            relative: 3,
-            task: 7,
-        }),
-        Call::Insert(Released {
-            deadline: 8,
-            relative: 6,
-            task: 1,
-        }),
-        Call::Take,
-        Call::Take,
-        Call::Take,
-    ];
+    let second = Released {
+        deadline: 9,
+        relative: 3,
+        task: 7,
+    };
+    let third = Released {
+        deadline: 8,
+        relative: 6,
+        task: 1,
+    };
+    let calls = in_and_out([first, second, third]);
     let (mut in_list, mut in_heap) = ([first; 3], [first; 3]);
     let mut from_list = [Answer::Taken(None); 6];
     let mut from_heap = [Answer::Taken(None); 6];
@@ -193,16 +186,7 @@ fn both_queues_give_out_released_tasks_alike(rt: HostRuntime) {
         ),
         Ok(())
     );
-    assert_eq!(rt;
-        (taken(from_list[3]), taken(from_heap[3])),
-        (Some(1), Some(1))
-    );
-    assert_eq!(rt;
-        (taken(from_list[4]), taken(from_heap[4])),
-        (Some(7), Some(7))
-    );
-    assert_eq!(rt;
-        (taken(from_list[5]), taken(from_heap[5])),
-        (Some(0), Some(0))
-    );
+    let expected = [Some(1), Some(7), Some(0)];
+    assert_eq!(rt; last_taken(&from_list), expected);
+    assert_eq!(rt; last_taken(&from_heap), expected);
 }

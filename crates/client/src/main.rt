@@ -27,10 +27,7 @@ fn tell(rt: &HostRuntime, t: u64, told: Result<(u32, u32, u32), Refusal>) -> io:
         Ok((expiries, releases, running)) => {
             println!(rt; "at {t}: {expiries} expired, {releases} released, {running} runs")
         }
-        Err(refusal) => {
-            let number = refusal.number();
-            println!(rt; "at {t}: refused {number}")
-        }
+        Err(refusal) => println!(rt; "at {t}: refused {}", refusal.number()),
     }
 }
 
@@ -41,13 +38,11 @@ fn visit<W: Queue<Entry = Waiting>, R: Queue<Entry = Released>>(
     section: usize,
     until: u64,
 ) -> Result<u32, LeaveRefusal> {
-    match core.enter(section) {
-        Ok(grant) => {
-            let _ = core.advance(until);
-            core.leave(grant)
-        }
-        Err(_) => Ok(NOBODY),
-    }
+    let Ok(grant) = core.enter(section) else {
+        return Ok(NOBODY);
+    };
+    let _ = core.advance(until);
+    core.leave(grant)
 }
 
 /// Runs both tasks for ten ticks, and says what is due and where they are.
@@ -85,11 +80,11 @@ fn main(rt: HostRuntime) -> io::Result<()> {
     println!(rt; "a core takes {size} bytes, with its two queues")?;
     let mut tasks = [TaskRecord::EMPTY; MOST_TASKS];
     let mut sections = [SectionRecord::EMPTY; MOST_SECTIONS];
-    if let Ok(counts) = read(TABLE, &mut tasks, &mut sections) {
-        let (k, m) = (counts.tasks, counts.sections);
-        if let Ok(pass) = admit(&tasks[0..k], &sections[0..m]) {
-            run(&rt, pass)?;
-        }
-    }
-    Ok(())
+    let Ok(counts) = read(TABLE, &mut tasks, &mut sections) else {
+        return Ok(());
+    };
+    let Ok(pass) = admit(&tasks[..counts.tasks], &sections[..counts.sections]) else {
+        return Ok(());
+    };
+    run(&rt, pass)
 }

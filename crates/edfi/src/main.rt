@@ -3,19 +3,32 @@
 #![tactic(auto)]
 
 use admission::admit::admit;
-use std::io;
 use std::io::Read;
 use std::str::from_utf8;
+use std::{fmt, io};
 use table::limits::{LONGEST_TEXT, MOST_SECTIONS, MOST_TASKS};
 use table::read::read;
 use table::records::{SectionRecord, TaskRecord};
 
+/// A number that may be missing, written `-` where it is.
+#[derive(Clone, Copy)]
+struct OrDash(Option<u32>);
+
+impl fmt::Display for OrDash {
+    fn fmt<W: fmt::Write>(&self, f: &mut fmt::Formatter<W>) -> fmt::Result {
+        match self.0 {
+            Some(number) => write!(f, "{number}"),
+            None => write!(f, "-"),
+        }
+    }
+}
+
 /// The name of the task with a number, as it stands in the text.
 fn name<'a>(text: &'a [u8], tasks: &[TaskRecord], task: usize) -> &'a str {
-    if task >= tasks.len() {
-        return "";
-    }
-    from_utf8(tasks[task].name.part_of(text)).unwrap_or("")
+    tasks
+        .get(task)
+        .and_then(|t| from_utf8(t.name.part_of(text)).ok())
+        .unwrap_or("")
 }
 
 /// Prints a line for each section: its number, its task's name, its level and its length.
@@ -28,11 +41,8 @@ fn list(
     println!(rt; "section task level length")?;
     for (number, section) in sections.iter().enumerate() {
         let name = name(text, tasks, section.task);
-        let length = section.length;
-        match section.level {
-            Some(level) => println!(rt; "{number} {name} {level} {length}")?,
-            None => println!(rt; "{number} {name} - {length}")?,
-        }
+        let level = OrDash(section.level);
+        println!(rt; "{number} {name} {level} {}", section.length)?;
     }
     Ok(())
 }
@@ -47,8 +57,7 @@ fn judge<'t>(
     match admit(tasks, sections) {
         Ok(pass) => {
             list(rt, text, pass.tasks(), pass.sections())?;
-            let idle = pass.idle();
-            println!(rt; "admitted idle {idle}")
+            println!(rt; "admitted idle {}", pass.idle())
         }
         Err(refusal) => println!(rt; "refused {refusal}"),
     }
@@ -63,10 +72,12 @@ fn run(rt: &HostRuntime) -> io::Result<()> {
     let mut tasks = [TaskRecord::EMPTY; MOST_TASKS];
     let mut sections = [SectionRecord::EMPTY; MOST_SECTIONS];
     match read(text.as_slice(), &mut tasks, &mut sections) {
-        Ok(counts) => {
-            let (k, m) = (counts.tasks, counts.sections);
-            judge(rt, text.as_slice(), &tasks[0..k], &sections[0..m])
-        }
+        Ok(counts) => judge(
+            rt,
+            text.as_slice(),
+            &tasks[..counts.tasks],
+            &sections[..counts.sections],
+        ),
         Err(refusal) => println!(rt; "refused {refusal}"),
     }
 }

@@ -1,3 +1,3 @@
-mod Among
 mod Cuts
+mod Lines
 mod Words

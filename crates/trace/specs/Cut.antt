@@ -1,14 +1,13 @@
 -- Where an input is cut: behind the table, and at the end of each line.
-use Rattle.std.specs.Prelude.{ℕ, Bool, true, cond, ◌&&◌, List, [], ◌∷◌, ◌==◌}
+use Rattle.std.specs.Prelude.{ℕ, Bool, true, not, cond, ◌&&◌, List, [], ◌∷◌, length, filter, ◌==◌}
+use Rattle.std.specs.List.{before_first, after_first, slice_split}
 
 -- a text up to its first byte 10, and what stands behind that
 abbrev pub line_of : List ℕ → List ℕ
-line_of [] = []
-line_of (b ∷ t) = cond (b == 10) [] (b ∷ line_of t)
+line_of text = before_first (λ b. b == 10) text
 
 abbrev pub behind_line : List ℕ → List ℕ
-behind_line [] = []
-behind_line (b ∷ t) = cond (b == 10) t (behind_line t)
+behind_line text = after_first (λ b. b == 10) text
 
 -- a text up to its first empty line, and what stands behind that: a byte 10 is an empty line where a line begins
 abbrev pub up_to_empty : Bool → List ℕ → List ℕ
@@ -26,16 +25,9 @@ abbrev pub behind_table : List ℕ → List ℕ
 behind_table input = behind_empty true input
 
 -- the pieces between the bytes 10 of a text
-abbrev pub onto : ℕ → List (List ℕ) → List (List ℕ)
-onto b [] = (b ∷ []) ∷ []
-onto b (piece ∷ pieces) = (b ∷ piece) ∷ pieces
-
 abbrev pub pieces_of : List ℕ → List (List ℕ)
-pieces_of [] = [] ∷ []
-pieces_of (b ∷ t) = cond (b == 10) ([] ∷ pieces_of t) (onto b (pieces_of t))
+pieces_of text = slice_split (λ b. b == 10) text
 
 -- those that are not empty
 abbrev pub filled : List (List ℕ) → List (List ℕ)
-filled [] = []
-filled ([] ∷ pieces) = filled pieces
-filled ((b ∷ piece) ∷ pieces) = (b ∷ piece) ∷ filled pieces
+filled pieces = filter (λ piece. not (length piece == 0)) pieces

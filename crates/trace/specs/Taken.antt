@@ -1,7 +1,7 @@
 -- What is taken from an input.
-use Rattle.std.specs.Prelude.{◌≡◌, ℕ, cond, List, [], ◌∷◌, map, is_some, Some, None, vec_items, codes, Option}
+use Rattle.std.specs.Prelude.{◌≡◌, ℕ, cond, List, map, is_some, Some, None, vec_items, codes, Option}
 use Rattle.std.specs.Option.{unwrap_or}
-use Rattle.std.specs.List.{AllByRecursion}
+use Rattle.std.specs.List.{AllByRecursion, filter_map}
 use Rattle.std.specs.Str.{bytes_eq}
 use Rattle.machine.specs.declared.call.Call.{Call}
 use Rattle.trace.specs.declared.script.Line.{Line}
@@ -32,10 +32,5 @@ pub record Taken (input : List ℕ) (s : Script) : Type 0 where
   pub lines : Lined (calls_of (behind_table input)) (vec_items s.lines)
 
 -- the calls among lines
-abbrev pub among : Option Call → List Call → List Call
-among None cs = cs
-among (Some c) cs = c ∷ cs
-
 abbrev pub calls_among : List Line → List Call
-calls_among [] = []
-calls_among (l ∷ ls) = among l.call (calls_among ls)
+calls_among lines = filter_map (λ (l : Line). l.call) lines

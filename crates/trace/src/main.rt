@@ -9,7 +9,7 @@ ghost use Rattle.queue.specs.Entries.{waiting_order, released_order};
 
 use admission::admit::admit;
 use admission::pass::Pass;
-use anyhow::anyhow;
+use anyhow::{anyhow, bail};
 use print::{Names, Standing, print_lines, print_standing};
 use queue::{HeapQueue, ListQueue, Queue, Released, Waiting};
 use scheduler::answer::{Answer, Refusal};
@@ -34,8 +34,8 @@ fn ask<W: Queue<Entry = Waiting>, R: Queue<Entry = Released>>(
     core: &Core<W, R>,
 ) -> Result<Standing, Refusal> {
     let mut places = [None; MOST_TASKS];
-    for task in 0..MOST_TASKS {
-        places[task] = core.place(task)?;
+    for (task, place) in places.iter_mut().enumerate() {
+        *place = core.place(task)?;
     }
     Ok(Standing {
         clock: core.clock()?,
@@ -61,23 +61,20 @@ fn run_over<W: Queue<Entry = Waiting> + Drop, R: Queue<Entry = Released> + Drop>
     let names = Names { text, tasks };
     let calls = script.calls(rt.alloc())?;
     let mut answers = vec![in rt.alloc(); Answer::Refused(Refusal::Shut); calls.len()]?;
-    match replay(
+    let core = replay(
         pass,
         waiting,
         released,
         calls.as_slice(),
         answers.as_mut_slice(),
-    ) {
-        Ok(core) => {
-            print_lines(rt, names, script.lines.as_slice(), answers.as_slice())?;
-            match ask(&core) {
-                Ok(standing) => print_standing(rt, names, &standing)?,
-                Err(refusal) => println!(rt; "refused {refusal}")?,
-            }
-            Ok(())
-        }
-        Err(_) => Err(anyhow!("there are more calls than places for answers")),
+    )
+    .map_err(|_| anyhow!("there are more calls than places for answers"))?;
+    print_lines(rt, names, script.lines.as_slice(), answers.as_slice())?;
+    match ask(&core) {
+        Ok(standing) => print_standing(rt, names, &standing)?,
+        Err(refusal) => println!(rt; "refused {refusal}")?,
     }
+    Ok(())
 }
 
 /// Makes the calls of a script over the queues that it chooses, with room for every task.
@@ -126,10 +123,12 @@ fn run_script(rt: &HostRuntime, script: &Script) -> anyhow::Result<()> {
     let mut tasks = [TaskRecord::EMPTY; MOST_TASKS];
     let mut sections = [SectionRecord::EMPTY; MOST_SECTIONS];
     match read(script.table, &mut tasks, &mut sections) {
-        Ok(counts) => {
-            let (k, m) = (counts.tasks, counts.sections);
-            judge(rt, script, &tasks[0..k], &sections[0..m])
-        }
+        Ok(counts) => judge(
+            rt,
+            script,
+            &tasks[..counts.tasks],
+            &sections[..counts.sections],
+        ),
         Err(refusal) => {
             println!(rt; "refused {refusal}")?;
             Ok(())
@@ -144,7 +143,7 @@ fn run(rt: &HostRuntime) -> anyhow::Result<()> {
         .take(LONGEST_INPUT as u64 + 1)
         .read_to_end(&mut input)?;
     if input.len() > LONGEST_INPUT {
-        return Err(anyhow!("the input has more than 16,777,216 bytes"));
+        bail!("the input has more than 16,777,216 bytes");
     }
     let script = Script::read(rt.alloc(), input.as_slice())?;
     run_script(rt, &script)

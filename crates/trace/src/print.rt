@@ -1,10 +1,11 @@
 //! What is printed: the answer of each call behind its line, and at the end what the questions answer.
 use crate::script::Line;
+use machine::call::Ticket;
 use scheduler::answer::Answer;
 use scheduler::question::{Counts, Place, Running};
-use std::io;
 use std::io::Write;
 use std::str::from_utf8;
+use std::{fmt, io};
 use table::limits::MOST_TASKS;
 use table::records::TaskRecord;
 
@@ -18,10 +19,23 @@ pub struct Names<'a, 't> {
 impl<'a> Names<'a, '_> {
     /// The name of the task with a number; `-` for a number that is no task's, as the one for none.
     fn of(&self, task: usize) -> &'a str {
-        if task >= self.tasks.len() {
-            return "-";
+        self.tasks
+            .get(task)
+            .and_then(|t| from_utf8(t.name.part_of(self.text)).ok())
+            .unwrap_or("-")
+    }
+}
+
+/// A number that may be missing, written `-` where it is.
+#[derive(Clone, Copy)]
+struct OrDash(Option<u64>);
+
+impl fmt::Display for OrDash {
+    fn fmt<W: fmt::Write>(&self, f: &mut fmt::Formatter<W>) -> fmt::Result {
+        match self.0 {
+            Some(number) => write!(f, "{number}"),
+            None => write!(f, "-"),
         }
-        from_utf8(self.tasks[task].name.part_of(self.text)).unwrap_or("-")
     }
 }
 
@@ -33,13 +47,14 @@ fn print_answer(rt: &HostRuntime, names: Names, answer: Answer) -> io::Result<()
             println!(rt; ": expiries {expiries} releases {releases} running {name}")
         }
         Answer::Granted(ticket) => {
-            let (task, section, serial) = (ticket.task, ticket.section, ticket.serial);
+            let Ticket {
+                task,
+                section,
+                serial,
+            } = ticket;
             println!(rt; ": grant {task} {section} {serial}")
         }
-        Answer::Running(task) => {
-            let name = names.of(task as usize);
-            println!(rt; ": running {name}")
-        }
+        Answer::Running(task) => { println!(rt; ": running {}", names.of(task as usize)) }
         Answer::Refused(refusal) => println!(rt; ": refused {refusal}"),
     }
 }
@@ -82,8 +97,7 @@ fn print_places(
     print!(rt; "places")?;
     for (task, place) in places.iter().enumerate() {
         if let Some(place) = place {
-            let name = names.of(task);
-            print!(rt; " {name} {place}")?;
+            print!(rt; " {} {place}", names.of(task))?;
         }
     }
     println!(rt)
@@ -91,8 +105,14 @@ fn print_places(
 
 /// Prints what was counted.
 fn print_counts(rt: &HostRuntime, counts: Counts) -> io::Result<()> {
-    let (releases, finishes, expiries) = (counts.releases, counts.finishes, counts.expiries);
-    let (entries, leaves, taken) = (counts.entries, counts.leaves, counts.taken);
+    let Counts {
+        releases,
+        finishes,
+        expiries,
+        entries,
+        leaves,
+        taken,
+    } = counts;
     print!(rt; "releases {releases} finishes {finishes} expiries {expiries}")?;
     println!(rt; " entries {entries} leaves {leaves} taken {taken}")
 }
@@ -103,16 +123,17 @@ pub(crate) fn print_standing(
     names: Names,
     standing: &Standing,
 ) -> io::Result<()> {
-    let clock = standing.clock;
-    match standing.due {
-        Some(due) => println!(rt; "clock {clock} due {due}")?,
-        None => println!(rt; "clock {clock} due -")?,
-    }
+    println!(rt; "clock {} due {}", standing.clock, OrDash(standing.due))?;
     print_places(rt, names, &standing.places)?;
     match standing.running {
-        Some(running) => {
-            let (name, deadline) = (names.of(running.task), running.deadline);
-            let inherited = running.inherited;
+        Some(
+            Running {
+                task,
+                deadline,
+                inherited,
+            },
+        ) => {
+            let name = names.of(task);
             println!(rt; "running {name} deadline {deadline} inherited {inherited}")?;
         }
         None => println!(rt; "running -")?,

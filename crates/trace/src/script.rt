@@ -1,5 +1,5 @@
 //! What standard input holds: a table, an empty line, then calls, one a line.
-ghost use Rattle.std.specs.Prelude.{◌≡◌, ◌<◌, length, IfOk};
+ghost use Rattle.std.specs.Prelude.{◌≡◌, IfOk};
 ghost use Rattle.trace.specs.Cut.{line_of, behind_line, table_of, behind_table};
 ghost use Rattle.trace.specs.Line.{Counts, Names, Says};
 ghost use Rattle.trace.specs.Taken.{choice_of, Lined, Taken, calls_among};
@@ -41,6 +41,7 @@ fn number(word: &str) -> Option<u64>
 }
 
 /// The same of 32 bits.
+// Not one function with `number` for both widths: no bound on a type parameter says how many bits it has.
 fn small_number(word: &str) -> Option<u32>
     ensures { Counts 32 word.now result }
 {
@@ -83,11 +84,10 @@ impl<'a> Line<'a> {
         ensures given { result.given.now ≡ given.now }
         ensures call { Says given.now result.call }
     {
-        let call = match from_utf8(given) {
-            Ok(text) => call(text),
-            Err(_) => None,
-        };
-        Line { given, call }
+        Line {
+            given,
+            call: from_utf8(given).ok().and_then(call),
+        }
     }
 }
 
@@ -95,30 +95,21 @@ impl<'a> Line<'a> {
 fn first_line(text: &[u8]) -> (&[u8], &[u8])
     ensures line { result.0.now ≡ line_of text.now }
     ensures behind { result.1.now ≡ behind_line text.now }
-    ensures shorter { 0 < length text.now → length result.1.now < length text.now }
 {
-    for (i, b) in text.iter().enumerate() {
-        if *b == b'\n' {
-            return (&text[0..i], &text[i + 1..]);
-        }
+    match text.iter().position(|b| *b == b'\n') {
+        Some(i) => (&text[..i], &text[i + 1..]),
+        None => (text, &[]),
     }
-    (text, &text[0..0])
 }
 
 /// The lines of a text that are not empty. The last one need not end with byte 10.
 fn lines<'a>(heap: Global, text: &'a [u8]) -> Result<Vec<Line<'a>>, AllocError>
     ensures { IfOk result (λ v. Lined text.now v.items) }
 {
-    let mut lines = Vec::new(heap);
-    let mut rest = text;
-    while !rest.is_empty() {
-        let (given, behind) = first_line(rest);
-        if !given.is_empty() {
-            lines.push(Line::read(given))?;
-        }
-        rest = behind;
-    }
-    Ok(lines)
+    text.split(|b| *b == b'\n')
+        .filter(|line| !line.is_empty())
+        .map(Line::read)
+        .collect(heap)
 }
 
 /// The bytes before the first empty line, and those behind it. Without an empty line nothing is behind.
@@ -126,17 +117,17 @@ fn at_empty_line(input: &[u8]) -> (&[u8], &[u8])
     ensures table { result.0.now ≡ table_of input.now }
     ensures behind { result.1.now ≡ behind_table input.now }
 {
-    let mut begins = true;
-    for (i, b) in input.iter().enumerate() {
-        if *b == b'\n' && begins {
-            return (&input[0..i], &input[i + 1..]);
-        }
-        begins = *b == b'\n';
+    if let Some(behind) = input.strip_prefix(b"\n") {
+        return (&[], behind);
     }
-    (input, &input[0..0])
+    match input.windows(2).position(|pair| pair == b"\n\n".as_slice()) {
+        Some(i) => (&input[..=i], &input[i + 2..]),
+        None => (input, &[]),
+    }
 }
 
 /// The queues that a line chooses, if it chooses some.
+// Tests and no `match` on the bytes, whose arms do not tell the check which bytes the line has.
 fn choice(line: &[u8]) -> Option<Queues>
     ensures { result ≡ choice_of line.now }
 {
@@ -171,12 +162,6 @@ impl<'a> Script<'a> {
     pub(crate) fn calls(&self, heap: Global) -> Result<Vec<Call>, AllocError>
         ensures { IfOk result (λ v. v.items ≡ calls_among self.now.lines.items) }
     {
-        let mut calls = Vec::new(heap);
-        for line in self.lines.iter() {
-            if let Some(call) = line.call {
-                calls.push(call)?;
-            }
-        }
-        Ok(calls)
+        self.lines.iter().filter_map(|line| line.call).collect(heap)
     }
 }

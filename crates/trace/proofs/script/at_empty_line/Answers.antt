@@ -1,24 +1,29 @@
-use Rattle.std.proofs.Common.{◌+◌, eqb, get_or, ◌∙◌, ⊎_elim}
-use Rattle.std.proofs.lemmas.Bool.{eq-eqb, ne_eqb, and_from, and_left, and_right}
-use Rattle.trace.proofs.Cuts.{whole_front, whole_rest, table_more, table_ends, table_over}
+use Rattle.std.proofs.Common.{◌≡◌, ◌+◌, take, drop, ap, sym, ◌∙◌, rules, tests, arith}
+use Rattle.std.proofs.lemmas.List.{take_all, drop_all}
+use Rattle.std.proofs.lemmas.Iterator.Search.{position_from_yields_List}
+use Rattle.std.specs.List.{position_or_len}
+use Rattle.trace.proofs.Cuts.{pairs, windows_are_pairs, two_ends, cut_behind, not_opened, found, not_found, length-pairs, whole_rest}
 use Rattle.trace.proofs.script.at_empty_line.Goals as goal
 
-pub returns-then-begins : goal.returns-then-begins
-returns-then-begins c =
+pub returns-in-Some-position : goal.returns-in-Some-position
+returns-in-Some-position c =
     let s = c.args.input.now in
-    let i = c.loop-i.i in
-    let ends = table_ends s c.loop-i.begins i c.loop-i-test.true (and_from (eqb (get_or s i 0) 10) c.loop-i.begins (eq-eqb _ _ c.if-b-eq10.true) c.if-begins.true) c.loop-i.invariant in
-    record { table = whole_front s i ∙ ends.0; behind = whole_rest s (i + 1) ∙ ends.1 }
+    let i = c.in-Some-position.i in
+    let answer = position_from_yields_List two_ends _ _ c.position.result c.position.ensures.ran (windows_are_pairs s c.windows.ensures.rest c.windows.ensures.size) (λ x b q k. search (rules, tests)) in
+    let here : position_or_len two_ends (pairs s) ≡ i = found two_ends (pairs s) i (sym answer ∙ c.in-Some-position.is) in
+    let front = not_opened s c.in_default.ensures.cases in
+    record {
+      table = sym (front.0 ∙ (cut_behind s).0 ∙ ap (λ k. take (k + 1) s) here);
+      behind = whole_rest s (i + 2) ∙ sym (front.1 ∙ (cut_behind s).1 ∙ ap (λ k. drop (k + 2) s) here);
+    }
 
-pub loop-i-preserved : goal.loop-i-preserved
-loop-i-preserved c =
+pub returns-in-None : goal.returns-in-None
+returns-in-None c =
     let s = c.args.input.now in
-    let i = c.loop-i.i in
-    table_more s c.loop-i.begins i c.loop-i-test.true
-    (⊎_elim (λ h. and_right (eqb (get_or s i 0) 10) c.loop-i.begins h.1) (λ h. and_left (eqb (get_or s i 0) 10) c.loop-i.begins (ne_eqb _ _ h)) c.else-b-eq10.either)
-    c.loop-i.invariant
-
-pub returns : goal.returns
-returns c =
-    let over = table_over c.args.input.now c.loop-i.begins c.loop-i.i c.loop-i-test.false c.loop-i.invariant in
-    record { table = over.0; behind = over.1 }
+    let answer = position_from_yields_List two_ends _ _ c.position.result c.position.ensures.ran (windows_are_pairs s c.windows.ensures.rest c.windows.ensures.size) (λ x b q k. search (rules, tests)) in
+    let past = not_found two_ends (pairs s) (sym answer ∙ c.in-None.is) in
+    let front = not_opened s c.in_default.ensures.cases in
+    record {
+      table = sym (front.0 ∙ (cut_behind s).0 ∙ take_all _ s (omega (arith, past, length-pairs s)));
+      behind = sym (front.1 ∙ (cut_behind s).1 ∙ drop_all _ s (omega (arith, past, length-pairs s)));
+    }

@@ -1,24 +1,22 @@
-use Rattle.std.proofs.Common.{◌+◌, length, ap, ◌∙◌, arith}
-use Rattle.std.proofs.lemmas.List.{length-drop}
-use Rattle.std.proofs.lemmas.Bool.{eq-eqb, ne_eqb}
-use Rattle.trace.proofs.Cuts.{whole_front, whole_rest, line_more, line_ends, line_over}
+use Rattle.std.proofs.Common.{◌≡◌, ◌+◌, ◌==◌, take, drop, ap, sym, ◌∙◌, rules, tests, arith}
+use Rattle.std.proofs.lemmas.List.{take_all, drop_all}
+use Rattle.std.proofs.lemmas.Iterator.{YieldsList-from_slice}
+use Rattle.std.proofs.lemmas.Iterator.Search.{position_from_yields_List}
+use Rattle.std.specs.List.{position_or_len}
+use Rattle.trace.proofs.Cuts.{found, not_found, whole_rest}
 use Rattle.trace.proofs.script.first_line.Goals as goal
 
-pub returns-then-b-eq10 : goal.returns-then-b-eq10
-returns-then-b-eq10 c =
+pub returns-in-Some : goal.returns-in-Some
+returns-in-Some c =
     let s = c.args.text.now in
-    let i = c.loop-i.i in
-    let ends = line_ends s i c.loop-i-test.true (eq-eqb _ _ c.if-b-eq10.true) c.loop-i.invariant in
-    record {
-      line = whole_front s i ∙ ends.0;
-      behind = whole_rest s (i + 1) ∙ ends.1;
-      shorter = λ h. omega (arith, ap length (whole_rest s (i + 1)), length-drop (i + 1) s);
-    }
+    let i = c.in-Some.i in
+    let answer = position_from_yields_List (λ b. b == 10) _ _ c.position.result c.position.ensures.ran (YieldsList-from_slice s cc) (λ x b q k. search (rules, tests)) in
+    let here : i ≡ position_or_len (λ b. b == 10) s = sym (found _ s i (sym answer ∙ c.in-Some.is)) in
+    record { line = ap (λ k. take k s) here; behind = whole_rest s (i + 1) ∙ ap (λ k. drop (k + 1) s) here }
 
-pub loop-i-preserved : goal.loop-i-preserved
-loop-i-preserved c = line_more c.args.text.now c.loop-i.i c.loop-i-test.true (ne_eqb _ _ c.if-b-eq10.false) c.loop-i.invariant
-
-pub returns : goal.returns
-returns c =
-    let over = line_over c.args.text.now c.loop-i.i c.loop-i-test.false c.loop-i.invariant in
-    record { line = over.0; behind = over.1; shorter = λ h. h }
+pub returns-in-None : goal.returns-in-None
+returns-in-None c =
+    let s = c.args.text.now in
+    let answer = position_from_yields_List (λ b. b == 10) _ _ c.position.result c.position.ensures.ran (YieldsList-from_slice s cc) (λ x b q k. search (rules, tests)) in
+    let past = not_found (λ b. b == 10) s (sym answer ∙ c.in-None.is) in
+    record { line = sym (take_all _ s past); behind = sym (drop_all _ s (omega (arith, past))) }

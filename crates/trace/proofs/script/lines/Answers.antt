@@ -1,31 +1,15 @@
-use Rattle.std.proofs.Common.{◌≡◌, ℕ, ◌<◌, List, length, vec_items, sym, ap, ◌∙◌, subst, arith}
-use Rattle.std.specs.List.{AllByRecursion}
-use Rattle.std.proofs.ByRecursion.{All-push}
-use Rattle.std.proofs.lemmas.Bool.{eqb-true, eqb-false}
+use Rattle.std.proofs.Common.{◌==◌, not, length, rules, tests}
+use Rattle.std.proofs.lemmas.Iterator.Consumers.{YieldsList-from_filter, YieldsList-at}
+use Rattle.std.proofs.lemmas.Iterator.Splits.{YieldsList-from_slice_split}
 use Rattle.trace.specs.declared.script.Line.{Line}
-use Rattle.trace.specs.Cut.{line_of}
 use Rattle.trace.specs.Line.{Says}
-use Rattle.trace.proofs.Cuts.{lines_push, lines_skip, lines_over}
+use Rattle.trace.proofs.Lines.{collected_by_map}
 use Rattle.trace.proofs.script.lines.Goals as goal
-
-pub loop-rest-preserved-in_ok-push : goal.loop-rest-preserved-in_ok-push
-loop-rest-preserved-in_ok-push c =
-    let Good : Line → Type 0 = λ x. Says x.given.now x.call in
-    let given = c.first_line.result.0.now in
-    let items = c.in_ok-push.ensures.items in
-    let some : 0 < length (line_of c.loop-rest.rest.now) = omega (arith, eqb-false (length given) 0 (sym c.if-not-is_empty.ensures), ap length c.first_line.ensures.line) in (
-      lines_push (λ (x : Line). x.given.now) (vec_items c.loop-rest.lines) (vec_items c.push.new.self) c.read.result c.loop-rest.rest.now c.first_line.result.1.now _ items (c.read.ensures.given ∙ c.first_line.ensures.line) c.first_line.ensures.behind some c.loop-rest.invariant.0,
-      subst (AllByRecursion Good) (sym items) (All-push Good (vec_items c.loop-rest.lines) c.read.result c.loop-rest.invariant.1 (subst (λ (l : List ℕ). Says l c.read.result.call) (sym c.read.ensures.given) c.read.ensures.call)),
-    )
-
-pub loop-rest-preserved : goal.loop-rest-preserved
-loop-rest-preserved c =
-    let given = c.first_line.result.0.now in
-    let none : length (line_of c.loop-rest.rest.now) ≡ 0 = omega (arith, eqb-true (length given) 0 (sym c.if-not-is_empty.ensures), ap length c.first_line.ensures.line) in
-    (lines_skip (λ (x : Line). x.given.now) (vec_items c.loop-rest.lines) c.loop-rest.rest.now c.first_line.result.1.now _ c.first_line.ensures.behind none c.loop-rest.invariant.0, c.loop-rest.invariant.1)
 
 pub returns : goal.returns
 returns c =
-    let rest = c.loop-rest.rest.now in
-    let none : length rest ≡ 0 = eqb-true (length rest) 0 (sym c.loop-rest-test.ensures) in
-    (lines_over (λ (x : Line). x.given.now) (vec_items c.loop-rest.lines) rest _ none c.loop-rest.invariant.0, c.loop-rest.invariant.1)
+    collected_by_map _ (λ x. x.now) _ (λ (l : Line). l.given.now) (λ (l : Line). Says l.given.now l.call) _ (λ x r q k. search rules) c.map.result c.collect.result _ c.collect.ensures.ran c.map.ensures.closure
+    (YieldsList-at c.map.ensures.source
+    (YieldsList-from_filter _ (λ piece. not (length piece == 0))
+    (YieldsList-at c.filter.ensures.source (YieldsList-from_slice_split _ (λ b. b == 10) c.args.text.now c.split.ensures.rest c.split.ensures.done c.split.ensures.closure (λ x b q k. search (rules, tests))))
+    c.filter.ensures.closure (λ x b q k. search (rules, tests))))

@@ -1,31 +1,23 @@
-use Rattle.std.proofs.Common.{◌≡◌, ℕ, List, Some, Option, Bor, sym, subst}
+use Rattle.std.proofs.Common.{◌≡◌, List, ℕ, Some, Option, Bor, sym, subst}
 use Rattle.std.proofs.lemmas.Str.Pattern.{IsSplitOnceResult}
 use Rattle.machine.specs.declared.call.Ticket.{Ticket}
 use Rattle.trace.specs.Line.{Number, Three, Names}
-use Rattle.trace.proofs.Words.{none_cut, some_cut, no_first, no_second, three_parts}
+use Rattle.trace.proofs.Words.{Cuts, three_cut}
 use Rattle.trace.proofs.script.ticket.Goals as goal
 
 pub returns-in_err-task : goal.returns-in_err-task
-returns-in_err-task c =
-    let words = c.args.words.now in
-    subst (Names words) (sym c.from_residual.ensures) (λ g h. no_first words g (none_cut words c.split_once.result c.split_once.ensures.cases c.in_err-task.was) h)
+returns-in_err-task c = subst (Names c.args.words.now) (sym c.from_residual.ensures) (λ g h. subst (Cuts _) c.in_err-task.was (three_cut c.args.words.now c.split_once.result g c.split_once.ensures.cases h))
 
 pub returns-in_err-section : goal.returns-in_err-section
 returns-in_err-section c =
-    let words = c.args.words.now in
-    let rest = c.in_ok-task.rest.now in
-    let cut = some_cut words c.split_once.result (c.in_ok-task.task, c.in_ok-task.rest) c.split_once.ensures.cases c.in_ok-task.was in
-    subst (Names words) (sym c.from_residual-in_err-section.ensures)
-    (λ g h. no_second words c.in_ok-task.task.now rest g cut.0 cut.1 (none_cut rest c.split_once-2.result c.split_once-2.ensures.cases c.in_err-section.was) h)
+    subst (Names c.args.words.now) (sym c.from_residual-in_err-section.ensures)
+    (λ g h. subst (Cuts _) c.in_err-section.was (subst (Cuts _) c.in_ok-task.was (three_cut c.args.words.now c.split_once.result g c.split_once.ensures.cases h) c.split_once-2.result c.split_once-2.ensures.cases))
 
--- a grant that is named is named by the three words, where a word is cut off at the first space, and another from the rest
+-- where both cuts are made, the three words are the numbers of any grant that is named
 parts :
     (words : List ℕ) (r s : Option (Bor (List ℕ) × Bor (List ℕ))) (x y : Bor (List ℕ) × Bor (List ℕ)) → IsSplitOnceResult 32 words r → r ≡ Some x → IsSplitOnceResult 32 x.1.now s → s ≡ Some y
     → (g : Ticket) → Three words g → Number 64 x.0.now g.task × Number 64 y.0.now g.section × Number 32 y.1.now g.serial
-parts words r s x y h e h' e' g t =
-    let cut = some_cut words r x h e in
-    let cut' = some_cut x.1.now s y h' e' in
-    three_parts words x.0.now x.1.now y.0.now y.1.now g cut.0 cut.1 cut'.0 cut'.1 t
+parts words r s x y h e h' e' g t = subst (Cuts _) e' (subst (Cuts _) e (three_cut words r g h t) s h')
 
 pub returns-in_err-number : goal.returns-in_err-number
 returns-in_err-number c =
