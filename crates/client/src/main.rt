@@ -1,6 +1,6 @@
 //! Firmware in small: a table is read and admitted, a core is made from the pass and two queues, and is told what happens.
 //!
-//! The two queues are of two kinds. No proof file stands beside this program: what a call asks of its caller, the core that was made has.
+//! The two queues are of two kinds. No proof file stands beside this program: a core asks its caller for a pass and two ordered queues when it is made, and for nothing after.
 
 #![tactic(auto)]
 
@@ -49,15 +49,8 @@ fn visit<W: Queue<Entry = Waiting>, R: Queue<Entry = Released>>(
 fn run(rt: &HostRuntime, pass: Pass) -> io::Result<()>
     requires { Passed pass }
 {
-    let mut ws = [Waiting {
-        release: 0,
-        task: 0,
-    }; MOST_TASKS];
-    let mut rs = [Released {
-        deadline: 0,
-        relative: 0,
-        task: 0,
-    }; MOST_TASKS];
+    let mut ws = [Waiting::EMPTY; MOST_TASKS];
+    let mut rs = [Released::EMPTY; MOST_TASKS];
     let mut core = Core::new(pass, ListQueue::new(&mut ws), HeapQueue::new(&mut rs));
     tell(rt, 0, core.advance(0))?;
     tell(rt, 2, core.advance(2))?;

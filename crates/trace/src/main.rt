@@ -81,15 +81,8 @@ fn run_over<W: Queue<Entry = Waiting> + Drop, R: Queue<Entry = Released> + Drop>
 fn run_pass(rt: &HostRuntime, script: &Script, pass: Pass) -> anyhow::Result<()>
     requires { Passed pass }
 {
-    let mut waiting = [Waiting {
-        release: 0,
-        task: 0,
-    }; MOST_TASKS];
-    let mut released = [Released {
-        deadline: 0,
-        relative: 0,
-        task: 0,
-    }; MOST_TASKS];
+    let mut waiting = [Waiting::EMPTY; MOST_TASKS];
+    let mut released = [Released::EMPTY; MOST_TASKS];
     match script.queues {
         Queues::Lists => {
             let (w, r) = (ListQueue::new(&mut waiting), ListQueue::new(&mut released));
