@@ -4,6 +4,9 @@ ghost use Rattle.std.specs.Prelude.{◌≡◌};
 use table::records::{SectionRecord, TaskRecord};
 
 /// Admitted records, lent for reading, and their idle instant. Only `admit` makes one.
+///
+/// What a pass says of its records is the predicate `Passed`, which whoever takes a pass asks for: a rule of this project keeps it a plain value
+/// that is moved, without an invariant of its type.
 #[derive(Drop)]
 pub struct Pass<'a> {
     pub(crate) tasks: &'a [TaskRecord],

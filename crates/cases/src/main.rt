@@ -64,6 +64,7 @@ fn decode(heap: Global, escaped: &str) -> anyhow::Result<Vec<u8>> {
     Ok(text)
 }
 
+// A line of the stored answers, in their order of numbers: no way to write records as such, so not `Display`.
 fn print_task(rt: &HostRuntime, t: &TaskRecord) -> io::Result<()> {
     let TaskRecord {
         name,

@@ -31,7 +31,8 @@ fn tell(rt: &HostRuntime, t: u64, told: Result<(u32, u32, u32), Refusal>) -> io:
     }
 }
 
-/// Enters a section and leaves it at an instant. A grant that is handed back goes to whoever called: it cannot be let go here.
+/// Enters a section and leaves it at an instant, late or not: that `advance` is refused is not told. A grant that is handed back goes to whoever called: it cannot
+/// be let go here. Where the section is not entered it answers as where none runs.
 /// `main` does not call this, since a program that ends could not dispose of such a grant; firmware does not end.
 fn visit<W: Queue<Entry = Waiting>, R: Queue<Entry = Released>>(
     core: &mut Core<W, R>,
@@ -45,7 +46,7 @@ fn visit<W: Queue<Entry = Waiting>, R: Queue<Entry = Released>>(
     core.leave(grant)
 }
 
-/// Runs both tasks for ten ticks, and says what is due and where they are.
+/// Runs both tasks for ten ticks, and says what is due and where the first is.
 fn run(rt: &HostRuntime, pass: Pass) -> io::Result<()>
     requires { Passed pass }
 {

@@ -11,7 +11,7 @@ use super::{Queue, QueueEntry, Refusal, scan};
 /// The first `len` of the lent entries, as a heap: no entry comes before the one above it.
 ///
 /// `first` reads one entry; `insert` and `take` compare one entry, or two, on each of the log of `len` levels that they pass.
-/// The ordered list has the same fields: a struct for both would only put one more call before each method of one line.
+// The ordered list has the same fields: a struct for both would only put one more call before each method of one line.
 #[derive(Drop)]
 pub struct HeapQueue<'a, E> {
     entries: &'a mut [E],

@@ -11,7 +11,7 @@ use super::{Queue, QueueEntry, Refusal, scan};
 /// The first `len` of the lent entries, in rising order.
 ///
 /// `first` reads one entry, `take` moves the others one place, and `insert` moves those that come after the new one.
-/// The heap has the same fields: a struct for both would only put one more call before each method of one line.
+// The heap has the same fields: a struct for both would only put one more call before each method of one line.
 #[derive(Drop)]
 pub struct ListQueue<'a, E> {
     entries: &'a mut [E],

@@ -50,7 +50,7 @@ impl fmt::Display for Refusal {
     }
 }
 
-/// The number that stands for no task where an answer names the running one: answers are numbers alone, as the firmware keeps them.
+/// The number that stands for no task where a call answers the running one. A rule of this project: 32 is what is answered, one more than any task.
 pub const NOBODY: u32 = 32;
 
 /// What a core answers to a call.

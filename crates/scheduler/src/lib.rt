@@ -1,7 +1,7 @@
 //! The run core: a task table run event by event, over any two queues that keep the queue's meaning.
 //!
 //! `run_core::Core` has the calls and the questions, `replay::replay` makes a list of calls on a new core and carries what is promised of every run.
-//! Nothing here allocates: the queues' memory is lent, and the core keeps its records and its stack in fixed arrays.
+//! Nothing here allocates: the queues' memory is lent, and the core holds its records and its stack in itself, with room for the largest table.
 
 #![tactic(auto)]
 

@@ -25,16 +25,18 @@ pub struct NoRoom<'a, W, R> {
     pub released: R,
 }
 
-/// A refusal to leave without its grant, whose numbers are all that replay keeps of it.
-fn spent(refusal: LeaveRefusal) -> Refusal
-    ensures { result ≡ refusal_of refusal }
-{
-    match refusal {
-        LeaveRefusal::Shut(Grant { ticket: _ }) => Refusal::Shut,
-        LeaveRefusal::NotInnermost(Grant { ticket }) => {
-            Refusal::Machine(call::Refusal::NotInnermost(ticket))
+/// A refusal to leave without its grant, which is spent: of a grant that was not innermost its numbers are left.
+impl From<LeaveRefusal> for Refusal {
+    ghost from_gives = { λ refusal r. r ≡ refusal_of refusal };
+
+    fn from(refusal: LeaveRefusal) -> Refusal {
+        match refusal {
+            LeaveRefusal::Shut(Grant { ticket: _ }) => Refusal::Shut,
+            LeaveRefusal::NotInnermost(Grant { ticket }) => {
+                Refusal::Machine(call::Refusal::NotInnermost(ticket))
+            }
+            LeaveRefusal::NotOpen => Refusal::Machine(call::Refusal::NotOpen),
         }
-        LeaveRefusal::NotOpen => Refusal::Machine(call::Refusal::NotOpen),
     }
 }
 
@@ -57,7 +59,7 @@ fn make<W: Queue<Entry = Waiting>, R: Queue<Entry = Released>>(
         Call::Leave(ticket) => core
             .leave(Grant { ticket })
             .map(|task| Answer::Running(task))
-            .map_err(spent),
+            .map_err(Refusal::from),
         Call::Finish => core.finish().map(|task| Answer::Running(task)),
     };
     told.unwrap_or_else(|refusal| Answer::Refused(refusal))
@@ -76,6 +78,7 @@ fn run<W: Queue<Entry = Waiting>, R: Queue<Entry = Released>>(
     ensures value { answers.new ≡ answers_from core.old.live (table_of core.old.records) calls.now (view W.Queue R.Queue core.old) ++ drop (length calls.now) answers.old }
     ensures after { view W.Queue R.Queue core.new ≡ state_from core.old.live (table_of core.old.records) calls.now (view W.Queue R.Queue core.old) }
 {
+    // By number: of what `answers.iter_mut().zip(calls)` lends, nothing is known after the loop.
     for (i, call) in calls.iter().enumerate() {
         answers[i] = make(core, *call);
     }

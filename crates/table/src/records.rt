@@ -71,6 +71,8 @@ impl SectionRecord {
 }
 
 /// How many tasks and sections there are, or may be.
+///
+/// Whoever reads a table lends two arrays and gets counts, as from `std::io::Read`: slices in the answer would keep the arrays lent.
 #[derive(Clone, Copy, Debug, Default, PartialEq)]
 pub struct Counts {
     pub tasks: usize,

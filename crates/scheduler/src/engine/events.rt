@@ -72,6 +72,7 @@ impl<W: Queue<Entry = Waiting>, R: Queue<Entry = Released>> Engine<W, R> {
     }
 
     /// The first waiting task is released if its release is t; answers whether it was.
+    // Not one function with `lapse_first`: which queue gives, what instant its entry has, what entry the other gets and what is counted all differ.
     fn release_first(&mut self, t: u64) -> bool
         requires { t ≤ last_instant }
         ensures few { length (W.list self.old.waiting) ≤ most_tasks }
