@@ -114,6 +114,7 @@ fn last_taken<E: QueueEntry>(answers: &[Answer<E>; 6]) -> [Option<usize>; 3] {
 }
 
 /// Makes the calls on a list and on a heap over the lent entries, and writes down what each answers.
+// The arrays are each test's own: of an entry of any type it would have to be asked that so many of them fit in memory.
 fn answer_calls<E: QueueEntry>(
     calls: &[Call<E>],
     entries: (&mut [E], &mut [E]),
