@@ -23,7 +23,7 @@ use Rattle.scheduler.specs.Steady.{job_at, chained, Steady}
 use Rattle.scheduler.specs.Moves.{top_of, no_open, innermost_of, enterable_at, enter_refusal, finish_refusal, again_of, with_open}
 use Rattle.scheduler.specs.Moves.{entered_by, finished_by}
 use Rattle.scheduler.proofs.Jobs.{jobs_none, jobs_top, jobs_set, opens_none, opens_top, opens_push}
-use Rattle.scheduler.proofs.Ghosts.{high, wide}
+use Rattle.scheduler.proofs.Ghosts.{high}
 use Rattle.scheduler.proofs.Events.{top_count}
 
 -- what a call comes to, by whether it is refused
@@ -72,8 +72,8 @@ module _ {k : Records} {i : Inner} (gh : Steady k i) where
   innermost_over : (p : ℕ) → p < i.depth → innermost_of (job_at i p) ≡ innermost (job_of (job_at i p)).opened
   innermost_over p h =
       let r = job_at i p in
-      let none = opens_none r.opened in
-      let top = λ (some : 0 < r.count). opens_top r.opened r.count no_open some (wide gh p h) in
+      let none = opens_none r.opened.items in
+      let top = λ (some : 0 < length r.opened.items). opens_top r.opened.items no_open some in
       grind (arith, nat_tests)
 
   -- whether a section is open to entry
@@ -87,7 +87,7 @@ module _ {k : Records} {i : Inner} (gh : Steady k i) where
     pub some : 0 < i.depth
     pub counted : i.counts.entries < most_entries
     pub nested : chained (table_of k) (record { section = x; serial = i.counts.entries } ∷ (job_of (top_of i)).opened) ≡ true
-    pub room : (top_of i).count < deepest
+    pub room : length (top_of i).opened.items < deepest
     pub in_table : x < length k.sections.items
 
   pub enter_some : (x : ℕ) → enter_refusal k i x ≡ None → Enterable x
@@ -101,7 +101,7 @@ module _ {k : Records} {i : Inner} (gh : Steady k i) where
         some = some;
         counted = grind (arith, nat_tests);
         nested = nested;
-        room = omega (arith, chain_short k (record { section = x; serial = i.counts.entries } ∷ (job_of (top_of i)).opened) nested, top_count gh some);
+        room = omega (arith, chain_short k (record { section = x; serial = i.counts.entries } ∷ (job_of (top_of i)).opened) nested, top_count gh);
         in_table = grind (arith, nat_tests, may);
       }
 
@@ -113,8 +113,7 @@ module _ {k : Records} {i : Inner} (gh : Steady k i) where
         let top = λ (some : 0 < i.depth). jobs_top i.stack i.depth some (high gh) in
         let may = λ (some : 0 < i.depth). enterable_over x (i.depth - 1) (omega arith) in
         let new = λ (some : 0 < i.depth). jobs_set i.stack i.depth (with_open x i.counts.entries (top_of i)) some (high gh) in
-        let fits = λ (e : enter_refusal k i x ≡ None). opens_push (top_of i).opened (top_of i).count (record { section = x; serial = i.counts.entries })
-        (let a = enter_some x e in omega (arith, a.room, gh.tall.3 (i.depth - 1) (omega (arith, gh.tall.2, a.some)))) in
+        let fits = opens_push (top_of i).opened.items (record { section = x; serial = i.counts.entries }) in
         grind (arith, nat_tests)
 
     pub finish_is : {o : Option Refusal} → finish_refusal i ≡ o → step (table_of k) Finish (state_of i ws rs) ≡ by_refusal o (state_of i ws rs) (done k i ws rs)
@@ -123,11 +122,11 @@ module _ {k : Records} {i : Inner} (gh : Steady k i) where
         let r = top_of i in
         let empty = jobs_none i.stack in
         let top = λ (some : 0 < i.depth). jobs_top i.stack i.depth some (high gh) in
-        let none = opens_none r.opened in
-        let more = λ (some : 0 < i.depth) (more : 0 < r.count). opens_top r.opened r.count no_open more (wide gh (i.depth - 1) (omega arith)) in
+        let none = opens_none r.opened.items in
+        let more = λ (some : 0 < i.depth) (more : 0 < length r.opened.items). opens_top r.opened.items no_open more in
         grind (arith, nat_tests)
 
-pub finish_some : (i : Inner) → finish_refusal i ≡ None → (0 < i.depth) × ((top_of i).count ≡ 0)
+pub finish_some : (i : Inner) → finish_refusal i ≡ None → (0 < i.depth) × (length (top_of i).opened.items ≡ 0)
 finish_some i e = grind (arith, nat_tests)
 
 module _ (k : Table) (t : ℕ) (s : State) where

@@ -1,5 +1,5 @@
 -- What an advance does before selection, over the core's own fields and the queues' lists, is what the machine does.
-use Rattle.std.proofs.Common.{◌≡◌, ℕ, ◌-◌, ◌<◌, true, false, List, ◌∷◌, length, arith}
+use Rattle.std.proofs.Common.{◌≡◌, ℕ, ◌<◌, true, false, List, ◌∷◌, length, arith}
 use Rattle.std.proofs.lemmas.Bool.Decides.{nat_tests}
 use Rattle.queue.specs.declared.waiting.Waiting.{Waiting}
 use Rattle.queue.specs.declared.released.Released.{Released}
@@ -15,12 +15,12 @@ use Rattle.scheduler.specs.Moves.{top_of, most, expired_by, is_due, again_of}
 use Rattle.scheduler.specs.Moves.{lapsed_by, released_by}
 use Rattle.scheduler.specs.Fitted.{Listed}
 use Rattle.scheduler.proofs.Jobs.{jobs_none, jobs_top, opens_length}
-use Rattle.scheduler.proofs.Ghosts.{high, wide}
+use Rattle.scheduler.proofs.Ghosts.{high}
 use Rattle.scheduler.proofs.Fits.{next_wait, releases_few}
 
 module _ {k : Records} {i : Inner} (gh : Steady k i) where
-  pub top_count : 0 < i.depth → length (job_of (top_of i)).opened ≡ (top_of i).count
-  top_count some = opens_length (top_of i).opened (top_of i).count (wide gh (i.depth - 1) (omega arith))
+  pub top_count : length (job_of (top_of i)).opened ≡ length (top_of i).opened.items
+  top_count = opens_length (top_of i).opened.items
 
   -- no count of jobs comes near the end of its type
   module _ {ws : List Waiting} {rs : List Released} {wc rc : ℕ} (li : Listed k i ws rs wc rc) where
@@ -41,7 +41,7 @@ module _ {k : Records} {i : Inner} (gh : Steady k i) where
     pub expire_yes : true ≡ is_due i t
         → state_of (expired_by i) (insert_sorted waiting_before (again_of (table_of k) i) ws) rs ≡ top_expired (table_of k) t (state_of i ws rs) (jobs_of i.stack i.depth)
     expire_yes d =
-        let count = top_count (due_some t d) in
+        let count = top_count in
         let top = jobs_top i.stack i.depth (due_some t d) (high gh) in
         grind (arith, nat_tests)
 

@@ -1,5 +1,5 @@
 -- What the core's copies of the records give: how many they are, and times that are not too large.
-use Rattle.std.proofs.Common.{◌≡◌, ℕ, zero, suc, ◌<◌, ◌≤◌, true, List, ◌∷◌, length, slice_index_or, inl, inr, add-one, arith}
+use Rattle.std.proofs.Common.{◌≡◌, ℕ, zero, suc, ◌<◌, ◌≤◌, true, List, ◌∷◌, length, slice_index_or, take, inl, inr, add-one, arith}
 use Rattle.std.proofs.lemmas.Bool.{cases_lt}
 use Rattle.std.proofs.lemmas.Bool.Decides.{nat_tests}
 use Rattle.std.proofs.ByRecursion.{All-get_or}
@@ -35,9 +35,9 @@ abbrev pub no_open : OpenSection
 no_open = record { section = 0; serial = 0 }
 
 pub open_within :
-    (k : Table) (os : List OpenSection) (n i : ℕ) → chained k (opens_of os n) ≡ true → i < n → n ≤ length os
+    (k : Table) (os : List OpenSection) (n i : ℕ) → chained k (opens_of (take n os)) ≡ true → i < n → n ≤ length os
     → (slice_index_or os i no_open).section < length k.sections
 open_within k os zero i c lt le = absurd (omega arith)
 open_within k os (suc n) i c lt le =
-    let parts = chained_parts k (open_of (slice_index_or os n no_open)) (opens_of os n) (rw (← add-one n, opens_more os n no_open (omega arith)) at c) in
+    let parts = chained_parts k (open_of (slice_index_or os n no_open)) (opens_of (take n os)) (rw (← add-one n, opens_more os n no_open (omega arith)) at c) in
     elim (cases_lt i n) [ inl less ↦ open_within k os n i parts.1 less (omega arith) | inr more ↦ (let same : n ≡ i = omega arith in rw (← same) parts.0) ]

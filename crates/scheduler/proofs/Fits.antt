@@ -24,7 +24,7 @@ use Rattle.scheduler.specs.declared.question.Counts.{Counts}
 use Rattle.scheduler.specs.declared.stack.Inner.{Inner}
 use Rattle.scheduler.specs.View.{table_of, jobs_of}
 use Rattle.scheduler.specs.Steady.{job_at, spot_at, stands_at, latest, next_of, Steady}
-use Rattle.scheduler.specs.Moves.{with_counts, with_spot, with_top, top_of, pushed, popped}
+use Rattle.scheduler.specs.Moves.{job_with, with_counts, with_spot, with_top, top_of, pushed, popped}
 use Rattle.scheduler.specs.Fitted.{sum_of, WaitsIn, ReleasedIn, Listed}
 use Rattle.scheduler.proofs.Jobs.{jobs_top, jobs_push, jobs_set, jobs_length}
 use Rattle.scheduler.proofs.Facts.{timed_at, few_tasks}
@@ -188,7 +188,7 @@ module _ {k : Records} {i : Inner} (gh : Steady k i) where
     pub push_listed : Listed k (pushed i e.task e.deadline) ws es wc rc
     push_listed =
         let jobs = ap (sum_of (λ (j : Job). next_of (table_of k) j.task j.deadline))
-        (jobs_push i.stack i.depth (record { task = e.task; deadline = e.deadline; count = 0; opened = (job_at i i.depth).opened }) (omega (arith, push_room, gh.tall.0))) in
+        (jobs_push i.stack i.depth (job_with e.task e.deadline) (omega (arith, push_room, gh.tall.0))) in
         let on : stands_at (Stacked i.depth) i.depth ≡ true = grind (arith, nat_tests) in
         record {
           waiting_room = li.waiting_room;

@@ -1,9 +1,9 @@
 -- What holds of the core's own fields is kept by each of its inner moves.
-use Rattle.std.proofs.Common.{◌≡◌, ℕ, ◌+◌, ◌-◌, ◌<◌, ◌≤◌, true, false, ◌≢◌, List, length, slice_index_or, slice_set, sym, refl, ap, ◌∙◌, inl, inr, arith, length-set}
+use Rattle.std.proofs.Common.{◌≡◌, ℕ, ◌+◌, ◌-◌, ◌<◌, ◌≤◌, true, false, ◌≢◌, List, [], length, slice_index_or, slice_set, sym, refl, ap, ◌∙◌, inl, inr, arith, length-set}
 use Rattle.std.proofs.lemmas.Bool.{cases_eq}
 use Rattle.std.proofs.lemmas.Bool.Decides.{nat_tests}
 use Rattle.std.proofs.lemmas.List.{get_or-set_same, get_or-set_other}
-use Rattle.table.specs.Limits.{most_tasks, deepest}
+use Rattle.table.specs.Limits.{most_tasks}
 use Rattle.machine.specs.Step.{most_entries}
 use Rattle.machine.specs.Promise.{open_count}
 use Rattle.scheduler.specs.declared.records.Records.{Records}
@@ -14,7 +14,7 @@ use Rattle.scheduler.specs.declared.question.Counts.{Counts}
 use Rattle.scheduler.specs.declared.stack.Inner.{Inner}
 use Rattle.scheduler.specs.View.{table_of, opens_of, jobs_of}
 use Rattle.scheduler.specs.Steady.{Placed, Balanced, Steady, no_record, job_at, spot_at, stands_at, stood_by, latest, chained}
-use Rattle.scheduler.specs.Moves.{with_counts, with_spot, with_top, top_of, pushed, popped}
+use Rattle.scheduler.specs.Moves.{job_with, with_counts, with_spot, with_top, top_of, pushed, popped}
 use Rattle.scheduler.proofs.Facts.{few_tasks}
 use Rattle.scheduler.proofs.Jobs.{jobs_top, jobs_push, jobs_set, opens_none, opens_length}
 
@@ -77,23 +77,19 @@ module _ (i j : Inner) where
       ]
 
 module _ {k : Records} {i : Inner} (gh : Steady k i) where
-  -- the stack is no higher than its array, and each job's open sections fit theirs
+  -- the stack is no higher than its array
   pub high : i.depth ≤ length i.stack
   high = omega (arith, gh.tall.0, gh.tall.2)
 
-  pub wide : (p : ℕ) → p < i.depth → (job_at i p).count ≤ length (job_at i p).opened
-  wide p h = omega (arith, (gh.known p h).2, gh.tall.3 p (omega (arith, gh.tall.2)))
-
   -- a job more on the stack
   module _ (task deadline : ℕ) (room : i.depth < most_tasks) (in_table : task < length k.tasks.items) (soon : deadline ≤ latest) (off : Off (spot_at i task)) where
-    fresh : StackRecord
-    fresh = record { task = task; deadline = deadline; count = 0; opened = (job_at i i.depth).opened }
+    abbrev fresh : StackRecord
+    fresh = job_with task deadline
 
     push_at : (p : ℕ) → p ≢ i.depth → job_at (pushed i task deadline) p ≡ job_at i p
     push_at p ne = get_or-set_other i.stack i.depth p _ no_record ne
 
     push_top : job_at (pushed i task deadline) i.depth ≡ fresh
-    unfolding fresh
     push_top = get_or-set_same i.stack i.depth _ no_record (omega (arith, gh.tall.0))
 
     -- what holds of each job below and of the new one holds of each
@@ -102,26 +98,23 @@ module _ {k : Records} {i : Inner} (gh : Steady k i) where
         elim (cases_eq p i.depth) [ inl e ↦ rw (e, push_top) here | inr ne ↦ rw (push_at p ne) (below p (omega arith)) ]
 
     push_stood : stood_by (pushed i task deadline) task (Stacked i.depth) ≡ true
-    unfolding fresh
     push_stood = let own = ap (λ (r : StackRecord). r.task) push_top in grind (arith, nat_tests)
 
     push_balance : Balanced (pushed i task deadline)
     push_balance =
-        let jobs = ap open_count (jobs_push i.stack i.depth (record { task = task; deadline = deadline; count = 0; opened = (job_at i i.depth).opened }) (omega (arith, gh.tall.0))) in
-        let none = ap length (opens_none (job_at i i.depth).opened) in
+        let jobs = ap open_count (jobs_push i.stack i.depth fresh (omega (arith, gh.tall.0))) in
+        let none = ap length (opens_none [] refl) in
         (omega (arith, gh.balanced.0, jobs, none), gh.balanced.1)
 
     pub push_ghosts : Steady k (pushed i task deadline)
-    unfolding fresh
     push_ghosts = record {
       tall = (
         length-set i.stack i.depth _ ∙ gh.tall.0,
         length-set i.spots task _ ∙ gh.tall.1,
         omega arith,
-        λ p h. elim (cases_eq p i.depth) [ inl e ↦ rw (e, push_top) (gh.tall.3 i.depth room) | inr ne ↦ rw (push_at p ne) (gh.tall.3 p h) ],
       );
-      known = pushed_all (λ p r. (r.task < length k.tasks.items) × (r.deadline ≤ latest) × (r.count ≤ deepest)) gh.known (in_table, soon, omega arith);
-      nested = pushed_all (λ p r. chained (table_of k) (opens_of r.opened r.count) ≡ true) gh.nested (ap (chained (table_of k)) (opens_none (job_at i i.depth).opened));
+      known = pushed_all (λ p r. (r.task < length k.tasks.items) × (r.deadline ≤ latest)) gh.known (in_table, soon);
+      nested = pushed_all (λ p r. chained (table_of k) (opens_of r.opened.items) ≡ true) gh.nested (ap (chained (table_of k)) (opens_none [] refl));
       noted = pushed_all (λ p r. stands_at (spot_at (pushed i task deadline) r.task) p ≡ true)
           (λ p h. ap (λ x. stands_at x p) (spot_other i task (job_at i p).task (Stacked i.depth) (apart i task (job_at i p).task p off (gh.noted p h))) ∙ gh.noted p h)
           (rw (spot_same i task (Stacked i.depth) (omega (arith, in_table, few_tasks k, gh.tall.1))) (grind (arith, nat_tests)));
@@ -135,7 +128,7 @@ module _ {k : Records} {i : Inner} (gh : Steady k i) where
       (task : ℕ) (s : Spot) (c : Counts) → Off (spot_at i task) → stood_by i task s ≡ true → c.entries ≡ i.counts.entries → c.leaves ≡ i.counts.leaves
       → c.taken ≡ i.counts.taken → task < most_tasks → Steady k (with_spot (with_counts i c) task s)
   note_ghosts task s c off stood en le ta room = record {
-    tall = (gh.tall.0, length-set i.spots task s ∙ gh.tall.1, gh.tall.2, gh.tall.3);
+    tall = (gh.tall.0, length-set i.spots task s ∙ gh.tall.1, gh.tall.2);
     known = gh.known;
     nested = gh.nested;
     noted = (λ p h. ap (λ x. stands_at x p) (spot_other i task (job_at i p).task s (apart i task (job_at i p).task p off (gh.noted p h))) ∙ gh.noted p h);
@@ -149,19 +142,19 @@ module _ {k : Records} {i : Inner} (gh : Steady k i) where
       stood_as (Stacked p) e = e
 
   -- how many sections are open on a stack that is not empty
-  pub top_open : 0 < i.depth → open_count (jobs_of i.stack i.depth) ≡ (top_of i).count + open_count (jobs_of i.stack (i.depth - 1))
+  pub top_open : 0 < i.depth → open_count (jobs_of i.stack i.depth) ≡ length (top_of i).opened.items + open_count (jobs_of i.stack (i.depth - 1))
   top_open some =
       let jobs = ap open_count (jobs_top i.stack i.depth some high) in
-      let long = opens_length (top_of i).opened (top_of i).count (wide (i.depth - 1) (omega arith)) in
+      let long = opens_length (top_of i).opened.items in
       omega (arith, jobs, long)
 
   -- the top job ends, and its open sections are taken back
   pub pop_ghosts :
-      (c : Counts) → 0 < i.depth → c.entries ≡ i.counts.entries → c.leaves ≡ i.counts.leaves → c.taken ≡ i.counts.taken + (top_of i).count
+      (c : Counts) → 0 < i.depth → c.entries ≡ i.counts.entries → c.leaves ≡ i.counts.leaves → c.taken ≡ i.counts.taken + length (top_of i).opened.items
       → Steady k (popped (with_counts i c))
   pop_ghosts c some en le ta =
       let last : i.depth - 1 < i.depth = omega arith in record {
-        tall = (gh.tall.0, length-set i.spots (top_of i).task Waiting ∙ gh.tall.1, omega (arith, gh.tall.2), gh.tall.3);
+        tall = (gh.tall.0, length-set i.spots (top_of i).task Waiting ∙ gh.tall.1, omega (arith, gh.tall.2));
         known = (λ p h. gh.known p (omega arith));
         nested = (λ p h. gh.nested p (omega arith));
         noted = (λ p h.
@@ -187,23 +180,22 @@ module _ {k : Records} {i : Inner} (gh : Steady k i) where
         elim (cases_eq p (i.depth - 1)) [ inl e ↦ rw (e, top_here) here | inr ne ↦ rw (top_at p ne) (others p h) ]
 
     pub top_ghosts :
-        (c : Counts) → r.task ≡ (top_of i).task → r.deadline ≡ (top_of i).deadline → r.count ≤ deepest → length r.opened ≡ deepest
-        → chained (table_of k) (opens_of r.opened r.count) ≡ true
-        → c.entries + (top_of i).count + i.counts.leaves + i.counts.taken ≡ i.counts.entries + r.count + c.leaves + c.taken → c.entries ≤ most_entries
+        (c : Counts) → r.task ≡ (top_of i).task → r.deadline ≡ (top_of i).deadline
+        → chained (table_of k) (opens_of r.opened.items) ≡ true
+        → c.entries + length (top_of i).opened.items + i.counts.leaves + i.counts.taken ≡ i.counts.entries + length r.opened.items + c.leaves + c.taken → c.entries ≤ most_entries
         → Steady k (with_counts (with_top i r) c)
-    top_ghosts c own due few full nest even fine =
+    top_ghosts c own due nest even fine =
         let last : i.depth - 1 < i.depth = omega arith in
-        let long = opens_length r.opened r.count (omega arith) in
+        let long = opens_length r.opened.items in
         let jobs = ap open_count (jobs_set i.stack i.depth r some (omega (arith, gh.tall.0, gh.tall.2))) in record {
           tall = (
             length-set i.stack (i.depth - 1) r ∙ gh.tall.0,
             gh.tall.1,
             gh.tall.2,
-            λ p h. elim (cases_eq p (i.depth - 1)) [ inl e ↦ rw (e, top_here) full | inr ne ↦ rw (top_at p ne) (gh.tall.3 p h) ],
           );
-          known = top_all (λ p q. (q.task < length k.tasks.items) × (q.deadline ≤ latest) × (q.count ≤ deepest)) gh.known
-              (omega (arith, own, (gh.known (i.depth - 1) last).0), omega (arith, due, (gh.known (i.depth - 1) last).1), few);
-          nested = top_all (λ p q. chained (table_of k) (opens_of q.opened q.count) ≡ true) gh.nested nest;
+          known = top_all (λ p q. (q.task < length k.tasks.items) × (q.deadline ≤ latest)) gh.known
+              (omega (arith, own, (gh.known (i.depth - 1) last).0), omega (arith, due, (gh.known (i.depth - 1) last).1));
+          nested = top_all (λ p q. chained (table_of k) (opens_of q.opened.items) ≡ true) gh.nested nest;
           noted = top_all (λ p q. stands_at (spot_at i q.task) p ≡ true) gh.noted (ap (λ n. stands_at (spot_at i n) (i.depth - 1)) own ∙ gh.noted (i.depth - 1) last);
           placed = (λ t h. stood_kept i (with_counts (with_top i r) c) t (spot_at i t)
               (λ p lt own_task. (lt, top_all (λ n q. q.task ≡ (job_at i n).task) (λ _ _. refl) own p lt ∙ own_task)) (gh.placed t h));

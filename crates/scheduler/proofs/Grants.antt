@@ -1,5 +1,5 @@
 -- A grant and the stack: it is open in the one job that its task has there, or nowhere.
-use Rattle.std.proofs.Common.{◌≡◌, ℕ, zero, suc, ◌-◌, ◌<◌, ◌≤◌, Bool, true, false, if◌then◌else◌, ◌&&◌, ◌||◌, ◌==◌, ◌≢◌, List, [], ◌∷◌, length, slice_index_or, sym, refl, ap, ◌∙◌, inl, inr, add-one, arith}
+use Rattle.std.proofs.Common.{◌≡◌, ℕ, zero, suc, ◌<◌, ◌≤◌, Bool, true, false, if◌then◌else◌, ◌&&◌, ◌||◌, ◌==◌, ◌≢◌, List, [], ◌∷◌, length, slice_index_or, sym, refl, ap, ◌∙◌, inl, inr, add-one, arith}
 use Rattle.std.proofs.lemmas.Bool.{cases_eq, cases_lt}
 use Rattle.std.proofs.lemmas.Bool.Decides.{nat_tests}
 use Rattle.table.specs.Limits.{most_tasks}
@@ -22,7 +22,7 @@ use Rattle.scheduler.specs.Moves.{top_of, no_open, with_closed, innermost_for, o
 use Rattle.scheduler.specs.Moves.{left_by}
 use Rattle.scheduler.proofs.Facts.{few_tasks}
 use Rattle.scheduler.proofs.Jobs.{jobs_none, jobs_top, jobs_more, jobs_set, opens_none, opens_top}
-use Rattle.scheduler.proofs.Ghosts.{high, wide}
+use Rattle.scheduler.proofs.Ghosts.{high}
 
 -- something that holds of a stack if it does of one of its jobs
 module _ (test : Job → Bool) (rs : List StackRecord) where
@@ -101,7 +101,7 @@ module _ {k : Records} {i : Inner} (gh : Steady k i) (g : Ticket) where
       ]
 
   -- what a leave that is accepted finds
-  pub leave_some : true ≡ innermost_for g i → (0 < i.depth) × (0 < (top_of i).count)
+  pub leave_some : true ≡ innermost_for g i → (0 < i.depth) × (0 < length (top_of i).opened.items)
   leave_some e = grind (arith, nat_tests)
 
   module _ (ws : List WaitingEntry) (rs : List ReleasedEntry) where
@@ -114,8 +114,8 @@ module _ {k : Records} {i : Inner} (gh : Steady k i) (g : Ticket) where
         let r = top_of i in
         let empty = jobs_none i.stack in
         let top = λ (some : 0 < i.depth). jobs_top i.stack i.depth some (high gh) in
-        let none = opens_none r.opened in
-        let more = λ (some : 0 < i.depth) (more : 0 < r.count). opens_top r.opened r.count no_open more (wide gh (i.depth - 1) (omega arith)) in
+        let none = opens_none r.opened.items in
+        let more = λ (some : 0 < i.depth) (more : 0 < length r.opened.items). opens_top r.opened.items no_open more in
         let freed = λ (some : 0 < i.depth). jobs_set i.stack i.depth (with_closed r) some (high gh) in
         let over = opened_over in
         grind (arith, nat_tests)

@@ -1,6 +1,6 @@
--- Arrays that are filled from the front, read as lists with the last first: jobs on the stack, and open sections of a job.
-use Rattle.std.proofs.Common.{◌≡◌, ℕ, ◌+◌, ◌-◌, ◌<◌, ◌≤◌, Bool, List, [], ◌∷◌, map, reverse, length, slice_index_or, take, slice_set, refl, ap, ◌∙◌, arith}
-use Rattle.std.proofs.lemmas.List.{take_more, take_more_set, reverse-append, length-reverse, length-map, length-take-le}
+-- Lists that grow at their end, read with the last first: jobs on the stack, and open sections of a job.
+use Rattle.std.proofs.Common.{◌≡◌, ℕ, ◌+◌, ◌-◌, ◌<◌, ◌≤◌, Bool, List, [], ◌∷◌, ◌++◌, map, reverse, length, slice_index_or, take, slice_set, sym, refl, ap, ◌∙◌, arith}
+use Rattle.std.proofs.lemmas.List.{take_all, take_more, take_more_set, reverse-append, length-reverse, length-map, length-take-le}
 use Rattle.std.proofs.lemmas.List.Sorted.{list_any-IsPermutation, IsPermutation-reverse}
 use Rattle.std.specs.List.{list_any}
 use Rattle.machine.specs.declared.call.Ticket.{Ticket}
@@ -50,25 +50,26 @@ unfolding jobs_of
 jobs_length rs n h = length-map (reverse (take n rs)) job_of ∙ length-reverse (take n rs) ∙ length-take-le n rs h
 
 -- open sections
-pub opens_none : (os : List OpenSection) → opens_of os 0 ≡ []
+pub opens_none : (os : List OpenSection) → length os ≡ 0 → opens_of os ≡ []
 unfolding opens_of
-opens_none os = refl
+opens_none [] e = refl
+opens_none (o ∷ os) e = absurd (omega arith)
 
-pub opens_push : (os : List OpenSection) (n : ℕ) (o : OpenSection) → n < length os → opens_of (slice_set os n o) (n + 1) ≡ open_of o ∷ opens_of os n
+pub opens_push : (os : List OpenSection) (o : OpenSection) → opens_of (os ++ o ∷ []) ≡ open_of o ∷ opens_of os
 unfolding opens_of
-opens_push os n o h = ap (map open_of) (put_last os n o h)
+opens_push os o = ap (map open_of) (reverse-append os (o ∷ []))
 
-pub opens_more : (os : List OpenSection) (n : ℕ) (d : OpenSection) → n < length os → opens_of os (n + 1) ≡ open_of (slice_index_or os n d) ∷ opens_of os n
+pub opens_more : (os : List OpenSection) (n : ℕ) (d : OpenSection) → n < length os → opens_of (take (n + 1) os) ≡ open_of (slice_index_or os n d) ∷ opens_of (take n os)
 unfolding opens_of
 opens_more os n d h = ap (map open_of) (last_more os n d h)
 
-pub opens_top : (os : List OpenSection) (n : ℕ) (d : OpenSection) → 0 < n → n ≤ length os → opens_of os n ≡ open_of (slice_index_or os (n - 1) d) ∷ opens_of os (n - 1)
-unfolding opens_of
-opens_top os n d p h = ap (map open_of) (last_first os n d p h)
+pub opens_top : (os : List OpenSection) (d : OpenSection) → 0 < length os → opens_of os ≡ open_of (slice_index_or os (length os - 1) d) ∷ opens_of (take (length os - 1) os)
+opens_top os d p =
+    ap opens_of (sym (take_all ((length os - 1) + 1) os (omega arith))) ∙ opens_more os (length os - 1) d (omega arith)
 
-pub opens_length : (os : List OpenSection) (n : ℕ) → n ≤ length os → length (opens_of os n) ≡ n
+pub opens_length : (os : List OpenSection) → length (opens_of os) ≡ length os
 unfolding opens_of
-opens_length os n h = length-map (reverse (take n os)) open_of ∙ length-reverse (take n os) ∙ length-take-le n os h
+opens_length os = length-map (reverse os) open_of ∙ length-reverse os
 
 -- whether a section is among the open ones, in either order
 module _ (g : Ticket) where
@@ -79,6 +80,6 @@ module _ (g : Ticket) where
   among_map [] = refl
   among_map (o ∷ os) = let ih = among_map os in grind arith
 
-  pub among_any : (os : List OpenSection) (n : ℕ) → list_any for_grant (take n os) ≡ among_open g (opens_of os n)
+  pub among_any : (os : List OpenSection) → list_any for_grant os ≡ among_open g (opens_of os)
   unfolding opens_of
-  among_any os n = list_any-IsPermutation for_grant (take n os) (reverse (take n os)) (IsPermutation-reverse (take n os)) ∙ among_map (reverse (take n os))
+  among_any os = list_any-IsPermutation for_grant os (reverse os) (IsPermutation-reverse os) ∙ among_map (reverse os)

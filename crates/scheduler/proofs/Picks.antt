@@ -1,5 +1,5 @@
 -- Selection over the core's own fields is the machine's.
-use Rattle.std.proofs.Common.{◌≡◌, ◌-◌, ◌<◌, ◌≤◌, true, false, if◌then◌else◌, ◌&&◌, ◌==◌, nat_lt, List, [], ◌∷◌, length, Some, None, ap, ◌∙◌, arith}
+use Rattle.std.proofs.Common.{◌≡◌, ◌-◌, ◌<◌, ◌≤◌, true, false, if◌then◌else◌, ◌&&◌, ◌==◌, nat_lt, List, [], ◌∷◌, length, Some, None, refl, ap, ◌∙◌, arith}
 use Rattle.std.proofs.lemmas.Bool.Decides.{nat_tests}
 use Rattle.queue.specs.declared.waiting.Waiting.{Waiting}
 use Rattle.queue.specs.declared.released.Released.{Released}
@@ -8,8 +8,7 @@ use Rattle.table.specs.Limits.{most_tasks}
 use Rattle.machine.specs.Step.{goes, selected}
 use Rattle.scheduler.specs.declared.stack.Inner.{Inner}
 use Rattle.scheduler.specs.View.{job_of, jobs_of, state_of}
-use Rattle.scheduler.specs.Steady.{job_at}
-use Rattle.scheduler.specs.Moves.{top_of, pushed, goes_over, running_of, deadline_of}
+use Rattle.scheduler.specs.Moves.{job_with, top_of, pushed, goes_over, running_of, deadline_of}
 use Rattle.scheduler.specs.Calls.{running_job}
 use Rattle.scheduler.proofs.Jobs.{jobs_none, jobs_top, jobs_push, opens_none}
 
@@ -45,9 +44,8 @@ module _ (k : Table) (i : Inner) (ws : List Waiting) (rs : List Released) where
       → state_of (pushed i e.task e.deadline) ws es ≡ selected k (state_of i ws rs)
   unfolding selected
   pick_yes e es at go room =
-      let opened = (job_at i i.depth).opened in
-      let push = jobs_push i.stack i.depth (record { task = e.task; deadline = e.deadline; count = 0; opened = opened }) room in
-      let none = opens_none opened in
+      let push = jobs_push i.stack i.depth (job_with e.task e.deadline) room in
+      let none = opens_none [] refl in
       grind arith
 
   pub pick_no : (e : Released) (es : List Released) → rs ≡ e ∷ es → goes k e (jobs_of i.stack i.depth) ≡ false → state_of i ws rs ≡ selected k (state_of i ws rs)

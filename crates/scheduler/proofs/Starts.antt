@@ -16,10 +16,9 @@ use Rattle.machine.specs.State.{Table, Job, first_releases, start}
 use Rattle.machine.specs.Promise.{open_count}
 use Rattle.machine.proofs.Lists.{all_map2}
 use Rattle.scheduler.specs.declared.records.Records.{Records}
-use Rattle.scheduler.specs.declared.stack.StackRecord.{StackRecord}
 use Rattle.scheduler.specs.declared.stack.Spot.TheVariants.{Waiting as Waits}
 use Rattle.scheduler.specs.View.{table_of, tally_of, state_of}
-use Rattle.scheduler.specs.Steady.{no_record, spot_at, stood_by, Steady}
+use Rattle.scheduler.specs.Steady.{spot_at, stood_by, Steady}
 use Rattle.scheduler.specs.Moves.{fresh}
 use Rattle.scheduler.specs.Fitted.{WaitsIn, Listed}
 use Rattle.scheduler.proofs.Jobs.{jobs_none}
@@ -72,12 +71,7 @@ module _ (k : Records) where
 
   pub fresh_ghosts : Steady k fresh
   fresh_ghosts = record {
-    tall = (
-      refl,
-      refl,
-      omega arith,
-      λ p h. ap (λ (r : StackRecord). length r.opened) (get_or-replicate most_tasks p _ no_record h),
-    );
+    tall = (refl, refl, omega arith);
     known = (λ p h. absurd (omega arith));
     nested = (λ p h. absurd (omega arith));
     noted = (λ p h. absurd (omega arith));

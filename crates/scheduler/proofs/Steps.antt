@@ -1,5 +1,5 @@
 -- What each step of an engine leaves: it fits again, and its state is what its inner move and its queues make of the lists.
-use Rattle.std.proofs.Common.{◌≡◌, ℕ, ◌+◌, ◌<◌, ◌≤◌, false, List, ◌∷◌, Some, Option, Result, refl, ap, ◌∙◌, arith}
+use Rattle.std.proofs.Common.{◌≡◌, ℕ, ◌+◌, ◌<◌, ◌≤◌, false, List, ◌∷◌, length, Some, Option, Result, refl, ap, ◌∙◌, arith}
 use Rattle.table.specs.Limits.{most_tasks}
 use Rattle.queue.specs.declared.Queue.{Ghosts as Meaning}
 use Rattle.queue.specs.declared.refusal.Refusal.{Refusal}
@@ -62,7 +62,7 @@ module _ {W R : Type 0} {w : Meaning W Waiting} {r : Meaning R Released} {k : Re
     pub ended :
         {i' : Inner} {ws' : W} {e : Waiting} {result : Result (Unit {0}) Refusal} (c : Counts) → 0 < i.depth → c.releases ≡ i.counts.releases
         → c.finishes + c.expiries ≡ i.counts.finishes + i.counts.expiries + 1 → c.entries ≡ i.counts.entries → c.leaves ≡ i.counts.leaves
-        → c.taken ≡ i.counts.taken + (top_of i).count → i' ≡ popped (with_counts i c) → e ≡ again_of (table_of k) i → Put w waiting_order ws ws' e result
+        → c.taken ≡ i.counts.taken + length (top_of i).opened.items → i' ≡ popped (with_counts i c) → e ≡ again_of (table_of k) i → Put w waiting_order ws ws' e result
         → Left w r k i' ws' rs (state_of (popped (with_counts i c)) (insert_sorted waiting_before (again_of (table_of k) i) (w.list ws)) (r.list rs))
     ended c some re fe en le ta moved is put =
         let room = w.capacity ws in

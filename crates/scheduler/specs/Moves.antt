@@ -1,7 +1,7 @@
 -- What the inner parts of the core do to its own fields: a job goes onto the stack or off it, a section of the running job is opened or closed, a
 -- task's place is noted, and each is counted.
-use Rattle.std.specs.Prelude.{ℕ, ◌+◌, ◌-◌, ◌^◌, Bool, true, false, if◌then◌else◌, ◌&&◌, length, replicate, Some, None, Option, ◌==◌, nat_lt, slice_index_or, slice_set}
-use Rattle.table.specs.Limits.{most_tasks, deepest}
+use Rattle.std.specs.Prelude.{ℕ, ◌+◌, ◌-◌, ◌^◌, Bool, true, false, if◌then◌else◌, ◌&&◌, [], ◌∷◌, ◌++◌, length, take, replicate, Some, None, Option, ◌==◌, nat_lt, slice_index_or, slice_set}
+use Rattle.table.specs.Limits.{most_tasks}
 use Rattle.table.specs.declared.records.SectionRecord.{SectionRecord}
 use Rattle.queue.specs.declared.waiting.Waiting.{Waiting as WaitingEntry}
 use Rattle.queue.specs.declared.released.Released.{Released as ReleasedEntry}
@@ -43,12 +43,16 @@ with_clock i t = record i { clock = t }
 abbrev pub top_of : Inner → StackRecord
 top_of i = job_at i (i.depth - 1)
 
+-- a job with nothing open
+abbrev pub job_with : ℕ → ℕ → StackRecord
+job_with task deadline = record { task = task; deadline = deadline; opened = record { items = [] } }
+
 -- what a new core keeps
 abbrev pub fresh : Inner
 fresh = record {
   clock = 0;
   depth = 0;
-  stack = replicate most_tasks (record { task = 0; deadline = 0; count = 0; opened = replicate deepest (record { section = 0; serial = 0 }) });
+  stack = replicate most_tasks (job_with 0 0);
   spots = replicate most_tasks Waiting;
   counts = record { releases = 0; finishes = 0; expiries = 0; entries = 0; leaves = 0; taken = 0 };
 }
@@ -57,7 +61,7 @@ fresh = record {
 abbrev pub pushed : Inner → ℕ → ℕ → Inner
 pushed i task deadline = record i {
   depth = i.depth + 1;
-  stack = slice_set i.stack i.depth (record { task = task; deadline = deadline; count = 0; opened = (job_at i i.depth).opened });
+  stack = slice_set i.stack i.depth (job_with task deadline);
   spots = slice_set i.spots task (Stacked i.depth);
 }
 
@@ -66,7 +70,7 @@ abbrev pub popped : Inner → Inner
 popped i = record i { depth = i.depth - 1; spots = slice_set i.spots (top_of i).task Waiting }
 
 abbrev pub expired_by : Inner → Inner
-expired_by i = popped (with_counts i (record i.counts { expiries = i.counts.expiries + 1; taken = i.counts.taken + (top_of i).count }))
+expired_by i = popped (with_counts i (record i.counts { expiries = i.counts.expiries + 1; taken = i.counts.taken + length (top_of i).opened.items }))
 
 abbrev pub finished_by : Inner → Inner
 finished_by i = popped (with_counts i (record i.counts { finishes = i.counts.finishes + 1 }))
@@ -80,10 +84,10 @@ released_by i task = with_spot (with_counts i (record i.counts { releases = i.co
 
 -- the running job enters a section, or leaves its innermost
 abbrev pub with_open : ℕ → ℕ → StackRecord → StackRecord
-with_open x n r = record r { count = r.count + 1; opened = slice_set r.opened r.count (record { section = x; serial = n }) }
+with_open x n r = record r { opened = record { items = r.opened.items ++ record { section = x; serial = n } ∷ [] } }
 
 abbrev pub with_closed : StackRecord → StackRecord
-with_closed r = record r { count = r.count - 1 }
+with_closed r = record r { opened = record { items = take (length r.opened.items - 1) r.opened.items } }
 
 abbrev pub entered_by : Inner → ℕ → Inner
 entered_by i x = with_counts (with_top i (with_open x i.counts.entries (top_of i))) (record i.counts { entries = i.counts.entries + 1 })
@@ -120,10 +124,10 @@ abbrev pub no_open : OpenSection
 no_open = record { section = 0; serial = 0 }
 
 abbrev pub last_open : StackRecord → OpenSection
-last_open r = slice_index_or r.opened (r.count - 1) no_open
+last_open r = slice_index_or r.opened.items (length r.opened.items - 1) no_open
 
 abbrev pub innermost_of : StackRecord → Option ℕ
-innermost_of r = if r.count == 0 then None else Some (last_open r).section
+innermost_of r = if length r.opened.items == 0 then None else Some (last_open r).section
 
 abbrev pub no_section : SectionRecord
 no_section = record { task = 0; around = None; small = 0; capital = 0; length = 0; level = None }
@@ -141,16 +145,16 @@ enter_refusal k i x =
     else Some NotEnterable
 
 abbrev pub finish_refusal : Inner → Option Refusal
-finish_refusal i = if i.depth == 0 then Some NothingRuns else if nat_lt 0 (top_of i).count then Some StillOpen else None
+finish_refusal i = if i.depth == 0 then Some NothingRuns else if nat_lt 0 (length (top_of i).opened.items) then Some StillOpen else None
 
 -- whether a grant is the running job's innermost, and whether it is open in the job that its task has on the stack
 abbrev pub innermost_for : Ticket → Inner → Bool
-innermost_for g i = nat_lt 0 i.depth && ((top_of i).task == g.task && (nat_lt 0 (top_of i).count && opens_for g (open_of (last_open (top_of i)))))
+innermost_for g i = nat_lt 0 i.depth && ((top_of i).task == g.task && (nat_lt 0 (length (top_of i).opened.items) && opens_for g (open_of (last_open (top_of i)))))
 
 abbrev pub open_for : Ticket → Inner → Spot → Bool
 open_for g i Waiting = false
 open_for g i Released = false
-open_for g i (Stacked p) = among_open g (opens_of (job_at i p).opened (job_at i p).count)
+open_for g i (Stacked p) = among_open g (opens_of (job_at i p).opened.items)
 
 abbrev pub opened_for : Ticket → Inner → Bool
 opened_for g i = if nat_lt g.task most_tasks then open_for g i (spot_at i g.task) else false

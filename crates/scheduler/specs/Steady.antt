@@ -1,7 +1,7 @@
 -- What is true of a running core's own fields between any two of its steps, whatever its queues hold: arrays keep their lengths, the places of tasks are
 -- noted, open sections lie in one another, and entries balance (`Steady`). All of it is part of the engine's type, so no caller is asked for it.
 use Rattle.std.specs.Prelude.{◌≡◌, ℕ, ◌+◌, ◌-◌, ◌<◌, ◌≤◌, Bool, true, false, ◌&&◌, List, [], ◌∷◌, length, ◌==◌, nat_lt, slice_index_or}
-use Rattle.table.specs.Limits.{most_tasks, deepest, largest}
+use Rattle.table.specs.Limits.{most_tasks, largest}
 use Rattle.machine.specs.State.{Table, Open, section_at, relative, period}
 use Rattle.machine.specs.Step.{same_place, innermost, last_instant, most_entries}
 use Rattle.machine.specs.Promise.{open_count}
@@ -14,7 +14,7 @@ use Rattle.scheduler.specs.View.{table_of, opens_of, jobs_of}
 
 -- the record past the end of an array
 abbrev pub no_record : StackRecord
-no_record = record { task = 0; deadline = 0; count = 0; opened = [] }
+no_record = record { task = 0; deadline = 0; opened = record { items = [] } }
 
 -- the job at a place of the stack
 abbrev pub job_at : Inner → ℕ → StackRecord
@@ -22,9 +22,7 @@ job_at i p = slice_index_or i.stack p no_record
 
 -- arrays are as long as they were made, and the stack is no higher than its array
 abbrev pub Tall : Inner → Type 0
-Tall i =
-    (length i.stack ≡ most_tasks) × (length i.spots ≡ most_tasks) × (i.depth ≤ most_tasks)
-    × ((p : ℕ) → p < most_tasks → length (job_at i p).opened ≡ deepest)
+Tall i = (length i.stack ≡ most_tasks) × (length i.spots ≡ most_tasks) × (i.depth ≤ most_tasks)
 
 -- where a task is
 abbrev pub spot_at : Inner → ℕ → Spot
@@ -43,15 +41,13 @@ abbrev pub chained : Table → List Open → Bool
 chained k [] = true
 chained k (o ∷ os) = nat_lt o.section (length k.sections) && (same_place (section_at k o.section).around (innermost os) && chained k os)
 
--- stacked jobs are of tasks of the table, due no later than a job can be, with no more sections open than there is room for
+-- stacked jobs are of tasks of the table, due no later than a job can be
 abbrev pub Known : Records → Inner → Type 0
-Known k i =
-    (p : ℕ) → p < i.depth
-    → ((job_at i p).task < length k.tasks.items) × ((job_at i p).deadline ≤ latest) × ((job_at i p).count ≤ deepest)
+Known k i = (p : ℕ) → p < i.depth → ((job_at i p).task < length k.tasks.items) × ((job_at i p).deadline ≤ latest)
 
 -- their open sections lie in one another
 abbrev pub Nested : Records → Inner → Type 0
-Nested k i = (p : ℕ) → p < i.depth → chained (table_of k) (opens_of (job_at i p).opened (job_at i p).count) ≡ true
+Nested k i = (p : ℕ) → p < i.depth → chained (table_of k) (opens_of (job_at i p).opened.items) ≡ true
 
 -- the place of each is noted
 abbrev pub stands_at : Spot → ℕ → Bool

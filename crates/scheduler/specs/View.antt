@@ -1,5 +1,5 @@
--- What the core's own fields stand for: its table, and the state of the machine. Arrays are filled from the front, so the top of the stack and
--- the innermost open section, which the machine has first, stand last.
+-- What the core's own fields stand for: its table, and the state of the machine. The stack and the open sections of a job grow at their end, so
+-- the top of the stack and the innermost open section, which the machine has first, stand last.
 use Rattle.std.specs.Prelude.{ℕ, List, map, reverse, take}
 use Rattle.queue.specs.declared.waiting.Waiting.{Waiting}
 use Rattle.queue.specs.declared.released.Released.{Released}
@@ -15,16 +15,16 @@ use Rattle.scheduler.specs.declared.stack.Inner.{Inner}
 abbrev pub table_of : Records → Table
 table_of k = record { tasks = k.tasks.items; sections = k.sections.items }
 
--- the first so many open sections of an array, innermost first
+-- the open sections of a job, innermost first
 abbrev pub open_of : OpenSection → Open
 open_of o = record { section = o.section; serial = o.serial }
 
-unfoldable pub opens_of : List OpenSection → ℕ → List Open
-opens_of os n = map open_of (reverse (take n os))
+unfoldable pub opens_of : List OpenSection → List Open
+opens_of os = map open_of (reverse os)
 
 -- the first so many jobs of an array, the top first
 abbrev pub job_of : StackRecord → Job
-job_of r = record { task = r.task; deadline = r.deadline; opened = opens_of r.opened r.count }
+job_of r = record { task = r.task; deadline = r.deadline; opened = opens_of r.opened.items }
 
 unfoldable pub jobs_of : List StackRecord → ℕ → List Job
 jobs_of rs n = map job_of (reverse (take n rs))

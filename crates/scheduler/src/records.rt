@@ -26,7 +26,7 @@ fn copied<T: Copy + Default, const N: usize>(from: &[T]) -> ArrayVec<T, N>
 
 impl Records {
     ghost use Rattle.std.specs.Prelude.{◌+◌, ◌<◌, true};
-    ghost use Rattle.table.specs.Limits.{deepest, largest};
+    ghost use Rattle.table.specs.Limits.{largest};
     ghost use Rattle.admission.specs.Sound.{sound};
     ghost use Rattle.machine.specs.State.{section_at, inherited};
     ghost use Rattle.machine.specs.Step.{last_instant, release_of};
@@ -47,7 +47,6 @@ impl Records {
 
     /// Whether a section is open to entry: it is of the job's task, and lies directly in its innermost open section, or is outermost if none is open.
     pub(crate) fn enterable(&self, section: usize, job: &StackRecord) -> bool
-        requires { job.now.count ≤ deepest }
         ensures { result ≡ enterable_at self.now section job.now }
     {
         let Some(record) = self.sections.get(section) else {
@@ -67,12 +66,12 @@ impl Records {
 
     /// The inherited deadline of a stacked job: the least of its task's D and the levels of its open sections.
     pub(crate) fn inherited(&self, job: &StackRecord) -> u32
-        requires known { (job.now.task < length self.now.tasks.items) × (job.now.count ≤ deepest) }
-        requires nested { chained (table_of self.now) (opens_of job.now.opened job.now.count) ≡ true }
+        requires known { job.now.task < length self.now.tasks.items }
+        requires nested { chained (table_of self.now) (opens_of job.now.opened.items) ≡ true }
         ensures { result ≡ inherited (table_of self.now) (job_of job.now) }
     {
         let mut least = self.tasks[job.task].deadline;
-        for open in job.opens() {
+        for open in job.opened.as_slice() {
             least = self
                 .level(open.section)
                 .map_or(least, |level| least.min(level));

@@ -1,18 +1,20 @@
 //! The core's table of stacked tasks, and what else it keeps of its own.
-ghost use Rattle.std.specs.Prelude.{◌≡◌, ◌+◌, ◌<◌, ◌≤◌, MatchOption, take};
+ghost use Rattle.std.specs.Prelude.{◌≡◌, ◌+◌, ◌<◌, ◌≤◌, MatchOption, length};
 ghost use Rattle.table.specs.Limits.{most_tasks, deepest};
 ghost use Rattle.machine.specs.Step.{most_entries, opens_for, among_open};
 ghost use Rattle.scheduler.specs.View.{open_of, opens_of};
-ghost use Rattle.scheduler.specs.Moves.{fresh, top_of, most, pushed, popped, expired_by, finished_by, lapsed_by, released_by, entered_by, left_by, with_clock, is_due, place_from, running_of, deadline_of, last_open, innermost_for};
+ghost use Rattle.scheduler.specs.Moves.{job_with, fresh, top_of, most, pushed, popped, expired_by, finished_by, lapsed_by, released_by, entered_by, left_by, with_clock, is_due, place_from, running_of, deadline_of, last_open, innermost_for};
 
 use crate::answer::NOBODY;
 use crate::question::{Counts, Place};
+use arrayvec::ArrayVec;
 use machine::call::Ticket;
+use std::array;
 use std::marker::Model;
 use table::limits::{DEEPEST, MOST_TASKS};
 
 /// A section that is open, with the serial of the entry that opened it.
-#[derive(Clone, Copy)]
+#[derive(Clone, Copy, Default)]
 pub struct OpenSection {
     pub section: u32,
     pub serial: u32,
@@ -25,54 +27,40 @@ impl OpenSection {
     {
         self.section as usize == ticket.section && self.serial == ticket.serial
     }
-
-    /// The section that no job has open.
-    const EMPTY: OpenSection = OpenSection {
-        section: 0,
-        serial: 0,
-    };
 }
 
 /// A job on the stack: its task, its absolute deadline, and its open sections, the outermost first.
-#[derive(Clone, Copy)]
+#[derive(Drop)]
 pub struct StackRecord {
     pub task: usize,
     pub deadline: u64,
-    pub count: usize,
-    pub opened: [OpenSection; DEEPEST],
+    pub opened: ArrayVec<OpenSection, DEEPEST>,
 }
 
 impl StackRecord {
-    /// A job of no task.
-    const EMPTY: StackRecord = StackRecord {
-        task: 0,
-        deadline: 0,
-        count: 0,
-        opened: [OpenSection::EMPTY; DEEPEST],
-    };
-
-    /// The open sections, the outermost first.
-    pub(crate) fn opens(&self) -> &[OpenSection]
-        requires { self.now.count ≤ deepest }
-        ensures { result.now ≡ take self.now.count self.now.opened }
+    /// A job of a task, with nothing open.
+    fn new(task: usize, deadline: u64) -> StackRecord
+        ensures { result ≡ job_with task deadline }
     {
-        &self.opened[..self.count]
+        StackRecord {
+            task,
+            deadline,
+            opened: ArrayVec::new(),
+        }
     }
 
     /// The innermost open section.
     pub(crate) fn innermost(&self) -> Option<&OpenSection>
-        requires { self.now.count ≤ deepest }
-        ensures { MatchOption result (self.now.count ≡ 0) (λ o. (0 < self.now.count) × (o.now ≡ last_open self.now)) }
+        ensures { MatchOption result (length self.now.opened.items ≡ 0) (λ o. (0 < length self.now.opened.items) × (o.now ≡ last_open self.now)) }
     {
-        self.opens().last()
+        self.opened.last()
     }
 
     /// Whether the section of a grant is among the open ones.
     pub(crate) fn holds(&self, ticket: Ticket) -> bool
-        requires { self.now.count ≤ deepest }
-        ensures { result ≡ among_open ticket (opens_of self.now.opened self.now.count) }
+        ensures { result ≡ among_open ticket (opens_of self.now.opened.items) }
     {
-        self.opens().iter().any(|open| open.is_for(ticket))
+        self.opened.iter().any(|open| open.is_for(ticket))
     }
 }
 
@@ -126,7 +114,7 @@ impl Inner {
         Inner {
             clock: 0,
             depth: 0,
-            stack: [StackRecord::EMPTY; MOST_TASKS],
+            stack: array::from_fn(|_| StackRecord::new(0, 0)),
             spots: [Spot::Waiting; MOST_TASKS],
             counts: Counts::default(),
         }
@@ -145,10 +133,7 @@ impl Inner {
         ensures { self.new ≡ pushed self.old task deadline }
     {
         let depth = self.depth;
-        let record = &mut self.stack[depth];
-        record.task = task;
-        record.deadline = deadline;
-        record.count = 0;
+        self.stack[depth] = StackRecord::new(task, deadline);
         self.spots[task] = Spot::Stacked(depth);
         self.depth = depth + 1;
     }
@@ -156,19 +141,20 @@ impl Inner {
     /// Takes the running job off the stack, so that its task waits; answers how many sections it had open.
     fn pop(&mut self) -> usize
         requires { (0 < self.old.depth) × ((top_of self.old).task < most_tasks) }
-        ensures open { result ≡ (top_of self.old).count }
+        ensures open { result ≡ length (top_of self.old).opened.items }
         ensures after { self.new ≡ popped self.old }
     {
         self.depth -= 1;
         let job = &self.stack[self.depth];
-        self.spots[job.task] = Spot::Waiting;
-        job.count
+        let (task, open) = (job.task, job.opened.len());
+        self.spots[task] = Spot::Waiting;
+        open
     }
 
     /// The running job ends at its deadline: it comes off the stack, its open sections are taken back, and its task waits.
     pub(crate) fn expire(&mut self)
-        requires top { (0 < self.old.depth) × ((top_of self.old).task < most_tasks) × ((top_of self.old).count ≤ deepest) }
-        requires counts { (self.old.counts.expiries < most) × (self.old.counts.taken + (top_of self.old).count ≤ most_entries) }
+        requires top { (0 < self.old.depth) × ((top_of self.old).task < most_tasks) }
+        requires counts { (self.old.counts.expiries < most) × (self.old.counts.taken + length (top_of self.old).opened.items ≤ most_entries) }
         ensures { self.new ≡ expired_by self.old }
     {
         self.counts.expiries += 1;
@@ -205,27 +191,26 @@ impl Inner {
 
     /// The running job enters a section; answers the serial of the entry.
     pub(crate) fn enter(&mut self, section: u32) -> u32
-        requires top { (0 < self.old.depth) × ((top_of self.old).count < deepest) }
+        requires top { (0 < self.old.depth) × (length (top_of self.old).opened.items < deepest) }
         requires counts { self.old.counts.entries < most_entries }
         ensures serial { result ≡ self.old.counts.entries }
         ensures after { self.new ≡ entered_by self.old section }
     {
         let serial = self.counts.entries;
         let top = &mut self.stack[self.depth - 1];
-        top.opened[top.count] = OpenSection { section, serial };
-        top.count += 1;
+        top.opened.push(OpenSection { section, serial });
         self.counts.entries = serial + 1;
         serial
     }
 
     /// The running job leaves its innermost section.
     pub(crate) fn leave(&mut self)
-        requires top { (0 < self.old.depth) × (0 < (top_of self.old).count) }
+        requires top { (0 < self.old.depth) × (0 < length (top_of self.old).opened.items) }
         requires counts { self.old.counts.leaves < most_entries }
         ensures { self.new ≡ left_by self.old }
     {
         let top = &mut self.stack[self.depth - 1];
-        top.count -= 1;
+        top.opened.pop();
         self.counts.leaves += 1;
     }
 
@@ -263,7 +248,6 @@ impl Inner {
 
     /// Whether a grant is the running job's innermost.
     pub(crate) fn is_innermost(&self, ticket: Ticket) -> bool
-        requires { 0 < self.now.depth → (top_of self.now).count ≤ deepest }
         ensures { result ≡ innermost_for ticket self.now }
     {
         let Some(job) = self.top() else {

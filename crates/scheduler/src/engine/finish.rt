@@ -17,7 +17,7 @@ impl<W: Queue<Entry = Waiting>, R: Queue<Entry = Released>> Engine<W, R> {
         ensures { MatchResult result (λ _. finish_refusal self.now.inner ≡ None) (λ r. finish_refusal self.now.inner ≡ Some r) }
     {
         let job = self.inner.top().ok_or(call::Refusal::NothingRuns)?;
-        if job.count > 0 {
+        if !job.opened.is_empty() {
             return Err(call::Refusal::StillOpen);
         }
         Ok(())

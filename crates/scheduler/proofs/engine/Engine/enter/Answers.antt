@@ -1,4 +1,4 @@
-use Rattle.std.proofs.Common.{rules, ◌≡◌, ℕ, ◌-◌, Err, sym, refl, ap, ◌∙◌, arith, length-set}
+use Rattle.std.proofs.Common.{rules, ◌≡◌, ℕ, [], ◌∷◌, Err, sym, refl, ap, ◌∙◌, arith, length-append}
 use Rattle.admission.proofs.SoundFacts.{few_sections}
 use Rattle.machine.specs.declared.call.Call.TheVariants.{Enter}
 use Rattle.machine.specs.declared.call.Answer.TheVariants.{Granted}
@@ -47,10 +47,9 @@ invariant_of-self g c =
     let top = top_of i in
     let steady = c.self.invariant.steady in
     let open-to = enter_some steady x (rw (← c.self.view_is) at c.in_ok-task.ensures.0) in
-    let full = steady.tall.3 (i.depth - 1) (omega (arith, steady.tall.2, open-to.some)) in
     (left c.enter-serial.ensures.after refl refl refl refl c.self.invariant.waiting c.self.invariant.released
-    (top_ghosts steady (with_open x i.counts.entries top) open-to.some (entered_by i x).counts refl refl (omega (arith, open-to.room)) (length-set top.opened top.count _ ∙ full)
-    (rw (opens_push top.opened top.count (record { section = x; serial = i.counts.entries }) (omega (arith, open-to.room, full))) open-to.nested) (omega arith) (omega (arith, open-to.counted)))
+    (top_ghosts steady (with_open x i.counts.entries top) open-to.some (entered_by i x).counts refl refl
+    (rw (opens_push top.opened.items (record { section = x; serial = i.counts.entries })) open-to.nested) (omega (arith, length-append top.opened.items (record { section = x; serial = i.counts.entries } ∷ []))) (omega (arith, open-to.counted)))
     (top_listed steady c.self.invariant.lists (with_open x i.counts.entries top) (entered_by i x).counts open-to.some refl refl refl refl refl)).fits
 
 -- an entry that is not refused is the machine's

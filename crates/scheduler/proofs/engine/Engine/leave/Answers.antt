@@ -1,4 +1,5 @@
-use Rattle.std.proofs.Common.{◌≡◌, ◌-◌, ◌<◌, sym, refl, ap, ◌∙◌, arith}
+use Rattle.std.proofs.Common.{◌≡◌, ◌-◌, ◌<◌, length, take, sym, refl, ap, ◌∙◌, arith}
+use Rattle.std.proofs.lemmas.List.{length-take-le}
 use Rattle.machine.specs.declared.call.Call.TheVariants.{Leave}
 use Rattle.machine.specs.declared.call.Answer.TheVariants.{Running}
 use Rattle.machine.specs.declared.call.Refusal.TheVariants.{NotInnermost, NotOpen}
@@ -12,7 +13,7 @@ use Rattle.scheduler.specs.Moves.{top_of, no_open, last_open, with_closed, left_
 use Rattle.scheduler.specs.Parts.{state_in}
 use Rattle.scheduler.proofs.Jobs.{opens_top}
 use Rattle.scheduler.proofs.Facts.{chained_parts}
-use Rattle.scheduler.proofs.Ghosts.{high, wide, top_open, top_ghosts}
+use Rattle.scheduler.proofs.Ghosts.{high, top_open, top_ghosts}
 use Rattle.scheduler.proofs.Fits.{top_listed}
 use Rattle.scheduler.proofs.Steps.{left}
 use Rattle.scheduler.proofs.Picks.{running_over}
@@ -63,11 +64,10 @@ invariant_of-self g c =
     let steady = c.self.invariant.steady in
     let some = leave_some steady c.args.grant.ticket c.if-not-is_innermost.ensures in
     let last : i.depth - 1 < i.depth = omega (arith, some.0) in
-    let full = steady.tall.3 (i.depth - 1) (omega (arith, steady.tall.2, some.0)) in
-    let nest = (chained_parts k (open_of (last_open top)) (opens_of top.opened (top.count - 1))
-    (rw (opens_top top.opened top.count no_open some.1 (wide steady (i.depth - 1) last)) at (steady.nested (i.depth - 1) last))).1 in
+    let nest = (chained_parts k (open_of (last_open top)) (opens_of (take (length top.opened.items - 1) top.opened.items))
+    (rw (opens_top top.opened.items no_open some.1) at (steady.nested (i.depth - 1) last))).1 in
     (left c.leave.ensures refl refl refl refl c.self.invariant.waiting c.self.invariant.released
-    (top_ghosts steady (with_closed top) some.0 (left_by i).counts refl refl (omega (arith, (steady.known (i.depth - 1) last).2)) full nest (omega (arith, some.1)) steady.balanced.1)
+    (top_ghosts steady (with_closed top) some.0 (left_by i).counts refl refl nest (omega (arith, some.1, length-take-le (length top.opened.items - 1) top.opened.items (omega arith))) steady.balanced.1)
     (top_listed steady c.self.invariant.lists (with_closed top) (left_by i).counts some.0 refl refl refl refl refl)).fits
 
 -- a leave that is not refused is the machine's, and leaves its state

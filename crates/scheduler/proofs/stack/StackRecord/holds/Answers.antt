@@ -11,5 +11,5 @@ pub returns : goal.returns
 returns c =
     let job = c.args.self.now in
     let test = for_grant c.args.ticket in
-    any_from_yields_List test _ _ c.any.result c.any.ensures.ran (YieldsList-from_slice c.opens.result.now cc) (λ x b q k. search (rules, tests))
-    ∙ ap (λ (os : List OpenSection). list_any test os) c.opens.ensures ∙ among_any c.args.ticket job.opened job.count
+    any_from_yields_List test _ _ c.any.result c.any.ensures.ran (YieldsList-from_slice _ cc) (λ x b q k. search (rules, tests))
+    ∙ ap (λ (os : List OpenSection). list_any test os) c.deref.ensures.0 ∙ among_any c.args.ticket job.opened.items
