@@ -26,17 +26,16 @@ pub struct NoRoom<'a, W, R> {
 }
 
 /// A refusal to leave without its grant, which is spent: of a grant that was not innermost its numbers are left.
-impl From<LeaveRefusal> for Refusal {
-    ghost from_gives = { λ refusal r. r ≡ refusal_of refusal };
-
-    fn from(refusal: LeaveRefusal) -> Refusal {
-        match refusal {
-            LeaveRefusal::Shut(Grant { ticket: _ }) => Refusal::Shut,
-            LeaveRefusal::NotInnermost(Grant { ticket }) => {
-                Refusal::Machine(call::Refusal::NotInnermost(ticket))
-            }
-            LeaveRefusal::NotOpen => Refusal::Machine(call::Refusal::NotOpen),
+// No `From`: an impl is public, and by it any caller could let go a grant that was handed back.
+fn spent(refusal: LeaveRefusal) -> Refusal
+    ensures { result ≡ refusal_of refusal }
+{
+    match refusal {
+        LeaveRefusal::Shut(Grant { ticket: _ }) => Refusal::Shut,
+        LeaveRefusal::NotInnermost(Grant { ticket }) => {
+            Refusal::Machine(call::Refusal::NotInnermost(ticket))
         }
+        LeaveRefusal::NotOpen => Refusal::Machine(call::Refusal::NotOpen),
     }
 }
 
@@ -59,7 +58,7 @@ fn make<W: Queue<Entry = Waiting>, R: Queue<Entry = Released>>(
         Call::Leave(ticket) => core
             .leave(Grant { ticket })
             .map(|task| Answer::Running(task))
-            .map_err(Refusal::from),
+            .map_err(spent),
         Call::Finish => core.finish().map(|task| Answer::Running(task)),
     };
     told.unwrap_or_else(|refusal| Answer::Refused(refusal))
