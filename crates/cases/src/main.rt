@@ -33,11 +33,14 @@ impl<T: fmt::Display> fmt::Display for OrDash<T> {
     }
 }
 
-/// The number that a digit in base 16 stands for; 0 for any other byte.
+/// The number that a digit in base 16 stands for, where its letters are small; 0 for any other byte, a capital too.
 fn hex(b: u8) -> u8
     ensures { result < 16 }
 {
-    char::from(b).to_digit(16).unwrap_or(0) as u8
+    char::from(b)
+        .to_digit(16)
+        .filter(|_| !b.is_ascii_uppercase())
+        .unwrap_or(0) as u8
 }
 
 /// The next byte that an escaped text stands for; none where it ends, or ends within an escape.

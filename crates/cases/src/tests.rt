@@ -1,4 +1,5 @@
 //! A few answers that are worked out by hand.
+use super::hex;
 use admission::admit::admit;
 use admission::refusal::Refusal as Unfit;
 use queue::{Answer, Call, HeapQueue, ListQueue, Mismatch, QueueEntry, Released, Waiting, both};
@@ -17,6 +18,12 @@ fn answer(text: &[u8]) -> Result<Counts, Refusal> {
 /// A refusal of the rule on the first line.
 fn broken(rule: Rule, byte: usize) -> Result<Counts, Refusal> {
     Err(Refusal::Broken(rule, Place { line: 1, byte }))
+}
+
+#[test]
+fn letters_of_a_number_in_base_16_are_small(rt: HostRuntime) {
+    let values = [b'0', b'9', b'a', b'f', b'g', b'A', b'F', 0xff].map(|b| hex(b));
+    assert_eq!(rt; values, [0, 9, 10, 15, 0, 0, 0, 0]);
 }
 
 #[test]
